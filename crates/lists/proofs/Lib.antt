@@ -1,0 +1,2 @@
+pub mod SumFacts
+pub mod SearchFacts

@@ -1,0 +1,3 @@
+pub mod CurveValue
+pub mod Curves
+pub mod Validity

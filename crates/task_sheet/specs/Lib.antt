@@ -1,0 +1,4 @@
+pub mod SheetParts
+pub mod Refusing
+pub mod Rules
+pub mod Sheets

@@ -1,0 +1,226 @@
+//! The rules that the parts of a sheet have to keep.
+ghost use Rattle.std.specs.Prelude.{◌≡◌, ◌==◌, ◌<◌, ◌≤◌, ◌^◌, ℕ, [], length, map, take, sum, bytes_eq, OnOk, slice_index_or};
+ghost use Rattle.curve.specs.Validity.{IsCurve};
+ghost use Rattle.task_sheet.specs.Sheets.{no_task};
+ghost use Rattle.std.specs.List.{list_all, list_any};
+ghost use Rattle.lists.specs.Ranges.{is_between as is_between_of};
+ghost use Rattle.task_sheet.specs.Rules.{is_name as is_name_of, is_positive as is_positive_of, are_positive as are_positive_of, are_times as are_times_of, supply_rule, promise_rule, segments_rule, cut_rule, task_rule, tasks_rule, last_number, rise_above};
+ghost use Rattle.task_sheet.specs.Refusing.{holds as holds_of};
+
+use crate::refusal::{Field, Place, SheetRefusal};
+use crate::tasks::{Cut, SupplySpec, Task};
+
+const GREATEST: u64 = 1_000_000_000;
+
+fn is_positive(n: u64) -> bool
+    ensures { result ≡ is_positive_of n }
+{
+    1 <= n && n <= GREATEST
+}
+
+fn all_positive(numbers: &[u64]) -> bool
+    ensures { result ≡ list_all is_positive_of numbers.now }
+{
+    for n in numbers {
+        if !is_positive(*n) {
+            return false;
+        }
+    }
+    true
+}
+
+/// 1 to 1,000 numbers, each in range.
+fn are_positive(numbers: &[u64]) -> bool
+    ensures { result ≡ are_positive_of 1000 numbers.now }
+{
+    1 <= numbers.len() && numbers.len() <= 1000 && all_positive(numbers)
+}
+
+fn all_printable(bytes: &[u8]) -> bool
+    ensures { result ≡ list_all (is_between_of 33 126) bytes.now }
+{
+    for byte in bytes {
+        if !(33 <= *byte && *byte <= 126) {
+            return false;
+        }
+    }
+    true
+}
+
+fn is_name(name: &str) -> bool
+    ensures { result ≡ is_name_of name.now }
+{
+    1 <= name.len() && name.len() <= 32 && all_printable(name.as_bytes())
+}
+
+fn are_times(horizon: u64, times: &[u64]) -> bool
+    ensures { result ≡ are_times_of horizon times.now }
+{
+    do_rise(times) && last_of(times) <= horizon
+}
+
+fn do_rise(times: &[u64]) -> bool
+    ensures { result ≡ rise_above 0 times.now }
+{
+    let mut last = 0;
+    for time in times {
+        if *time <= last {
+            return false;
+        }
+        last = *time;
+    }
+    true
+}
+
+fn last_of(times: &[u64]) -> u64
+    ensures { result ≡ last_number 0 times.now }
+{
+    let mut last = 0;
+    for time in times {
+        last = *time;
+    }
+    last
+}
+
+fn holds(test: bool, refusal: SheetRefusal) -> Result<(), SheetRefusal>
+    ensures { result ≡ holds_of test refusal }
+{
+    if test { Ok(()) } else { Err(refusal) }
+}
+
+pub fn check_supply(supply: &SupplySpec) -> Result<(), SheetRefusal>
+    ensures { result ≡ supply_rule supply.now }
+{
+    match supply {
+        SupplySpec::Unit => Ok(()),
+        SupplySpec::Promised { horizon, times } => check_promise(*horizon, times.as_slice()),
+    }
+}
+
+fn check_promise(horizon: u64, times: &[u64]) -> Result<(), SheetRefusal>
+    ensures { result ≡ promise_rule horizon times.now }
+{
+    let place = Place::Supply;
+    holds(
+        is_positive(horizon),
+        SheetRefusal::Range {
+            place,
+            field: Field::Horizon,
+        },
+    )?;
+    holds(
+        are_positive(times),
+        SheetRefusal::Range {
+            place,
+            field: Field::Times,
+        },
+    )?;
+    holds(
+        are_times(horizon, times),
+        SheetRefusal::Order {
+            place,
+            field: Field::Times,
+        },
+    )
+}
+
+fn sum_of(numbers: &[u64]) -> u64
+    requires { sum numbers.now < 2 ^ 64 }
+    ensures { result ≡ sum numbers.now }
+{
+    numbers.iter().sum()
+}
+
+fn check_segments(n: u32, cost: u64, segments: &[u64]) -> Result<(), SheetRefusal>
+    ensures { result ≡ segments_rule n cost segments.now }
+{
+    if !are_positive(segments) {
+        return Err(SheetRefusal::Range {
+            place: Place::Task(n),
+            field: Field::Preemption,
+        });
+    }
+    holds(sum_of(segments) == cost, SheetRefusal::Sum { task: n })
+}
+
+fn check_cut(n: u32, cost: u64, cut: &Cut) -> Result<(), SheetRefusal>
+    ensures { result ≡ cut_rule n cost cut.now }
+{
+    match cut {
+        Cut::Full | Cut::Never => Ok(()),
+        Cut::Fixed(segments) => check_segments(n, cost, segments.as_slice()),
+        Cut::Floating(longest) => {
+            let refusal = SheetRefusal::Range {
+                place: Place::Task(n),
+                field: Field::Preemption,
+            };
+            holds(is_positive(*longest), refusal)?;
+            holds(*longest <= cost, SheetRefusal::Sum { task: n })
+        }
+    }
+}
+
+/// Whether an earlier task has the name.
+fn is_taken(name: &str, earlier: &[Task]) -> bool
+    ensures { result ≡ list_any (bytes_eq name.now) (map (λ t. t.name) earlier.now) }
+{
+    for task in earlier {
+        if name == task.name.as_str() {
+            return true;
+        }
+    }
+    false
+}
+
+#[tactic(auto, unfolding(crate::specs::Rules::task_rule))]
+fn check_task(n: u32, earlier: &[Task], task: &Task) -> Result<(), SheetRefusal>
+    ensures rule { result ≡ task_rule n (map (λ t. t.name) earlier.now) task.now }
+    ensures curve { IsCurve task.now.curve }
+{
+    let place = Place::Task(n);
+    let _valid = task.curve.horizon();
+    holds(
+        is_name(task.name.as_str()),
+        SheetRefusal::Range {
+            place,
+            field: Field::Name,
+        },
+    )?;
+    holds(
+        !is_taken(task.name.as_str(), earlier),
+        SheetRefusal::Twice { task: n },
+    )?;
+    holds(
+        is_positive(task.cost),
+        SheetRefusal::Range {
+            place,
+            field: Field::Cost,
+        },
+    )?;
+    holds(
+        is_positive(task.deadline),
+        SheetRefusal::Range {
+            place,
+            field: Field::Deadline,
+        },
+    )?;
+    holds(
+        task.priority <= GREATEST,
+        SheetRefusal::Range {
+            place,
+            field: Field::Priority,
+        },
+    )?;
+    check_cut(n, task.cost, &task.cut)
+}
+
+pub fn check_tasks(tasks: &[Task]) -> Result<(), SheetRefusal>
+    requires { length tasks.now ≤ 256 }
+    ensures rule { result ≡ tasks_rule 0 [] tasks.now }
+    ensures curves { OnOk result ((i : ℕ) → i < length tasks.now → IsCurve (slice_index_or tasks.now i no_task).curve) }
+{
+    for i in 0..tasks.len() {
+        check_task(i as u32, &tasks[..i], &tasks[i])?;
+    }
+    Ok(())
+}

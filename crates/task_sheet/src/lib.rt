@@ -1,0 +1,11 @@
+//! Sheets of real-time tasks, and their jobs.
+#![tactic(auto)]
+
+mod checking;
+mod refusal;
+mod sheet;
+mod tasks;
+
+pub use refusal::{Field, Place, SheetRefusal};
+pub use sheet::Sheet;
+pub use tasks::{Cut, Job, PolicyKind, SupplySpec, Task};

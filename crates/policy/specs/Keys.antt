@@ -1,0 +1,7 @@
+use Rattle.std.specs.Prelude.{Bool, ◌&&◌, ◌||◌, int_lt, int_le}
+use Rattle.std.specs.Ordering.{int_eq}
+use Rattle.policy.specs.declared.keys.Key.{Key}
+
+-- at least as urgent
+abbrev pub key_le : Key → Key → Bool
+key_le a b = int_lt a.high b.high || (int_eq a.high b.high && int_le a.low b.low)

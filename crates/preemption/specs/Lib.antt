@@ -1,0 +1,3 @@
+pub mod CutMeaning
+pub mod Cuts
+pub mod CutLaws

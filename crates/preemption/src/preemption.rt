@@ -1,0 +1,37 @@
+//! What a kind of preemption is.
+ghost use Rattle.std.specs.Prelude.{◌≡◌, true};
+ghost use Rattle.task_sheet.specs.declared.tasks.Task.{Task as TaskValue};
+ghost use Rattle.task_sheet.specs.Sheets.{IsTask};
+ghost use Rattle.preemption.specs.CutMeaning.{CutMeaning};
+ghost use Rattle.preemption.specs.CutLaws.{IsLawfulCut};
+
+use task_sheet::{Job, Task};
+
+/// A kind of preemption: at which services a job can be cut.
+pub trait Preemption {
+    const NAME: &'static str;
+
+    ghost cuts: { CutMeaning };
+
+    /// Whether a job can be preempted once it has had `s` ticks of service.
+    fn cuttable(task: &Task, job: &Job, s: u64) -> bool
+        ensures { result ≡ cuts.cuttable task.now job.now s };
+
+    /// The most service between two places where a job can be cut.
+    fn longest(task: &Task) -> u64
+        requires valid { IsTask task.now }
+        requires serves { cuts.serves task.now ≡ true }
+        ensures { result ≡ cuts.longest task.now };
+
+    /// From how much service on a job is not cut any more.
+    fn threshold(task: &Task) -> u64
+        requires valid { IsTask task.now }
+        requires serves { cuts.serves task.now ≡ true }
+        ensures { result ≡ cuts.threshold task.now };
+
+    /// Whether the job's cost and segments fit its task.
+    fn fits(task: &Task, job: &Job) -> bool
+        ensures { result ≡ cuts.fits task.now job.now };
+
+    ghost lawful: { (task : TaskValue) → IsTask task → cuts.serves task ≡ true → IsLawfulCut cuts task };
+}

@@ -1,0 +1,6 @@
+//! Runs: which jobs there are, and what the processor does at each tick.
+#![tactic(auto)]
+
+mod run;
+
+pub use run::{Run, Tick};

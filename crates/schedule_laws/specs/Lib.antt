@@ -1,0 +1,2 @@
+pub mod Compliance
+pub mod Bounded

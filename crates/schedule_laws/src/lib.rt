@@ -1,0 +1,2 @@
+//! Which runs comply with a sheet, and the tests that decide it.
+#![tactic(auto)]

@@ -1,0 +1,2 @@
+//! Laws on stretches in which a set of jobs keeps the processor busy.
+#![tactic(auto)]

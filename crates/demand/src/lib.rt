@@ -1,0 +1,2 @@
+//! How much service jobs can ask for within a window.
+#![tactic(auto)]

@@ -1,0 +1,2 @@
+//! The offsets at which a bound has to be judged.
+#![tactic(auto)]

@@ -100,13 +100,13 @@ alpha_zero c ok =
     let r : 0 % c.horizon ≡ 0 = omega arith in
     omega (arith, ap (λ (w : ℕ). w * last_value 0 c.steps c.horizon) q, ap (last_value 0 c.steps) r, last_value_early c.steps 0 0 0 0 ok.rising (omega arith))
 
-last_value_kept : (steps : List Step) (time top low t : ℕ) → low ≤ top → RiseFrom time top steps → low ≤ last_value low steps t
+pub last_value_kept : (steps : List Step) (time top low t : ℕ) → low ≤ top → RiseFrom time top steps → low ≤ last_value low steps t
 last_value_kept [] time top low t h r = omega arith
 last_value_kept (s ∷ steps) time top low t h r =
     let kept = last_value_kept steps s.time s.value (cond (leb s.time t) s.value low) t (chosen_le s.time s.value low t (omega (arith, r.1))) r.2 in
     omega (arith, kept, chosen_kept s.time s.value low t (omega (arith, r.1)))
 
-value_first : (steps : List Step) → StartsAtOne steps → RiseFrom 0 0 steps → 1 ≤ last_value 0 steps 1
+pub value_first : (steps : List Step) → StartsAtOne steps → RiseFrom 0 0 steps → 1 ≤ last_value 0 steps 1
 value_first [] first r = absurd first
 value_first (s ∷ steps) first r =
     let e : leb s.time 1 ≡ true = le-leb s.time 1 (omega (arith, first)) in

@@ -1,1 +1,2 @@
 pub mod CurveFacts
+pub mod RiseFacts

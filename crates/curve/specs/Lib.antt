@@ -1,3 +1,4 @@
 pub mod CurveValue
 pub mod Curves
 pub mod Validity
+pub mod Rises

@@ -1,10 +1,15 @@
 //! A prefix of an arrival curve.
 ghost use Rattle.std.specs.Prelude.{◌≡◌, ◌+◌, ◌*◌, ◌≤◌, ◌<◌, ℕ, IfOk};
-ghost use Rattle.curve.specs.Curves.{last_value as last_value_of, value_of, alpha_of};
+ghost use Rattle.curve.specs.Curves.{last_value as last_value_of, value_of, alpha_of, IsRise};
 ghost use Rattle.curve.specs.Validity.{IsCurve, check_of};
+ghost use Rattle.lists.specs.Searches.{IsLeastTo};
+ghost use Rattle.curve.specs.Rises.{next_time_of};
 
 use crate::checking::{CurveRefusal, are_in_range, do_rise, ends_by, starts_at_one};
 use std::marker::Model;
+
+/// No later rise is looked for, in ticks.
+const LAST_RISE: u64 = 4_000_000_000;
 
 /// From `time` on, the value is `value`.
 #[derive(Clone, Copy, Debug, PartialEq, Eq)]
@@ -85,6 +90,31 @@ impl Prefix {
         let whole = (d / self.horizon) as u128 * last_value(&self.steps, self.horizon) as u128;
         whole + last_value(&self.steps, d % self.horizon) as u128
     }
+
+    /// The least later length, up to 4·10^9, at which more jobs may arrive than in `d` ticks.
+    pub fn next_rise(&self, d: u64) -> Option<u64>
+        ensures { IsLeastTo (IsRise self.now d) 4000000000 result }
+    {
+        if d >= LAST_RISE {
+            return None;
+        }
+        let begun = d % self.horizon;
+        let next = d - begun + next_time(&self.steps, begun, self.horizon);
+        if next <= LAST_RISE { Some(next) } else { None }
+    }
+}
+
+/// The time of the first step after `begun`, or the tick after the horizon.
+fn next_time(steps: &[Step], begun: u64, horizon: u64) -> u64
+    requires { horizon ≤ 1000000000 }
+    ensures { result ≡ next_time_of horizon steps.now begun }
+{
+    for step in steps {
+        if begun < step.time {
+            return step.time;
+        }
+    }
+    horizon + 1
 }
 
 /// The value of the last step whose time is at most `t`, else 0.

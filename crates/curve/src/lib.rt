@@ -6,3 +6,6 @@ mod prefix;
 
 pub use checking::CurveRefusal;
 pub use prefix::{Prefix, Step};
+
+#[cfg(test)]
+mod tests;

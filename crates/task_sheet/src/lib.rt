@@ -9,3 +9,6 @@ mod tasks;
 pub use refusal::{Field, Place, SheetRefusal};
 pub use sheet::Sheet;
 pub use tasks::{Cut, Job, PolicyKind, SupplySpec, Task};
+
+#[cfg(test)]
+mod tests;

@@ -1,4 +1,4 @@
-use Rattle.std.specs.Prelude.{◌≡◌, ℕ, ◌+◌, ◌<◌, ◌≤◌, Bool, true, List, [], length, drop, Option, Some, None}
+use Rattle.std.specs.Prelude.{◌≡◌, ℕ, ◌+◌, ◌<◌, ◌≤◌, Bool, List, [], length, drop, Option, Some}
 use Rattle.poet_io.specs.declared.shelf.ReadRefusal.{ReadRefusal}
 use Rattle.poet_io.specs.declared.shelf.ReadRefusal.TheVariants.{Fault, Absent, TooLong, Memory}
 use Rattle.poet_io.specs.Faults.{Rose}

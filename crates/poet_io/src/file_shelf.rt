@@ -1,5 +1,5 @@
 //! The files of the system, as a shelf. No clause says what they hold.
-ghost use Rattle.std.specs.Prelude.{◌≡◌, None, true, false};
+ghost use Rattle.std.specs.Prelude.{◌≡◌, ◌≤◌, ◌+◌, ◌-◌, ◌^◌, None, true, false, min};
 ghost use Rattle.poet_io.specs.Faults.{HasCause, IsCounted};
 ghost use Rattle.poet_io.specs.Shelves.{Opened, ReadTook};
 
@@ -37,6 +37,17 @@ impl<'a, R: Files> FileShelf<'a, R> {
             faults: 0,
         }
     }
+
+    /// Closes the file and counts a fault.
+    fn fault(&mut self) -> ShelfFault
+        ensures closed { self.new.is_open ≡ false }
+        ensures later { self.old.faults ≤ self.new.faults }
+        ensures counted { self.new.faults ≡ min (self.old.faults + 1) (2 ^ 64 - 1) }
+    {
+        self.file = None;
+        self.faults = self.faults.saturating_add(1);
+        ShelfFault
+    }
 }
 
 impl<'a, R: Files> Shelf for FileShelf<'a, R> {
@@ -53,12 +64,13 @@ impl<'a, R: Files> Shelf for FileShelf<'a, R> {
         ensures opened { Opened None name.now self.new.is_open None result }
         ensures counted { IsCounted self.old.faults self.new.faults result }
     {
-        self.file = File::open(self.rt, name).ok();
-        if self.file.is_some() {
-            return Ok(true);
+        match File::open(self.rt, name) {
+            Ok(file) => {
+                self.file = Some(file);
+                Ok(true)
+            }
+            Err(_) => Err(self.fault()),
         }
-        self.faults = self.faults.saturating_add(1);
-        Err(ShelfFault)
     }
 
     fn read(&mut self, buf: &mut [u8]) -> Result<usize, ShelfFault>
@@ -71,11 +83,9 @@ impl<'a, R: Files> Shelf for FileShelf<'a, R> {
             Some(file) => file.read(buf).ok(),
             None => None,
         };
-        if let Some(n) = read {
-            return Ok(n);
+        match read {
+            Some(n) => Ok(n),
+            None => Err(self.fault()),
         }
-        self.file = None;
-        self.faults = self.faults.saturating_add(1);
-        Err(ShelfFault)
     }
 }

@@ -15,3 +15,6 @@ pub use mem_sink::MemSink;
 pub use shelf::{ReadRefusal, Shelf, ShelfFault, read_whole};
 pub use sink::{Sink, SinkFault, write_all, write_parts};
 pub use std_sink::StdSink;
+
+#[cfg(test)]
+mod tests;

@@ -1,5 +1,5 @@
 //! A shelf in memory.
-ghost use Rattle.std.specs.Prelude.{◌≡◌, ◌+◌, ◌<◌, ◌≤◌, ◌^◌, ◌↔◌, true, Some, None, length, take, drop, min, map, is_some, Contains, IsErr, IfOk};
+ghost use Rattle.std.specs.Prelude.{◌≡◌, ◌+◌, ◌-◌, ◌<◌, ◌≤◌, ◌^◌, ◌↔◌, true, Some, None, length, take, drop, min, is_some, Contains, IsErr, IfOk};
 ghost use Rattle.poet_io.specs.Calls.{one_more};
 ghost use Rattle.poet_io.specs.Faults.{HasCause, IsCounted};
 ghost use Rattle.poet_io.specs.MemFiles.{entries_of, bytes_at, IsFirst};
@@ -61,6 +61,18 @@ impl MemShelf {
             place: None,
         }
     }
+
+    /// Closes the file and counts a fault.
+    fn fault(&mut self) -> ShelfFault
+        ensures closed { self.new.left ≡ None }
+        ensures later { self.old.faults ≤ self.new.faults }
+        ensures counted { self.new.faults ≡ min (self.old.faults + 1) (2 ^ 64 - 1) }
+        ensures stays { self.new ≡ record self.old { left = None; faults = self.new.faults } }
+    {
+        self.place = None;
+        self.faults = self.faults.saturating_add(1);
+        ShelfFault
+    }
 }
 
 impl Shelf for MemShelf {
@@ -84,11 +96,10 @@ impl Shelf for MemShelf {
           calls = one_more self.old.calls;
         } }
     {
-        self.place = None;
         if self.calls.next_fails() {
-            self.faults = self.faults.saturating_add(1);
-            return Err(ShelfFault);
+            return Err(self.fault());
         }
+        self.place = None;
         match place_of(&self.files, name) {
             Some(file) => {
                 self.place = Some(Place { file, at: 0 });
@@ -114,9 +125,7 @@ impl Shelf for MemShelf {
         } }
     {
         if self.calls.next_fails() {
-            self.place = None;
-            self.faults = self.faults.saturating_add(1);
-            return Err(ShelfFault);
+            return Err(self.fault());
         }
         let Some(place) = self.place else {
             unreachable!()

@@ -1,5 +1,5 @@
 //! A sink in memory.
-ghost use Rattle.std.specs.Prelude.{◌≡◌, ◌≤◌, ◌↔◌, [], Some, IfOk, IsErr};
+ghost use Rattle.std.specs.Prelude.{◌≡◌, ◌≤◌, ◌+◌, ◌-◌, ◌^◌, ◌↔◌, [], Some, min, IfOk, IsErr};
 ghost use Rattle.poet_io.specs.Calls.{one_more};
 ghost use Rattle.poet_io.specs.Faults.{HasCause, IsCounted};
 ghost use Rattle.poet_io.specs.MemSinks.{IsRefused, count_taken};
@@ -73,6 +73,16 @@ impl MemSink {
     {
         &self.taken
     }
+
+    /// Counts a fault.
+    fn fault(&mut self) -> SinkFault
+        ensures later { self.old.faults ≤ self.new.faults }
+        ensures counted { self.new.faults ≡ min (self.old.faults + 1) (2 ^ 64 - 1) }
+        ensures stays { self.new ≡ record self.old { faults = self.new.faults } }
+    {
+        self.faults = self.faults.saturating_add(1);
+        SinkFault
+    }
 }
 
 impl Sink for MemSink {
@@ -97,12 +107,10 @@ impl Sink for MemSink {
         let fails = self.calls.next_fails();
         let n = bytes.len().min(self.most).min(self.room - self.taken.len());
         if fails {
-            self.faults = self.faults.saturating_add(1);
-            return Err(SinkFault);
+            return Err(self.fault());
         }
         if n == 0 && !bytes.is_empty() {
-            self.faults = self.faults.saturating_add(1);
-            return Err(SinkFault);
+            return Err(self.fault());
         }
         self.taken.extend_from_slice(&bytes[..n]).unwrap();
         Ok(n)

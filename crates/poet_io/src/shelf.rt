@@ -3,7 +3,7 @@ ghost use Rattle.std.specs.Prelude.{◌≡◌, ℕ, ◌<◌, ◌≤◌, ◌^◌,
 ghost use Rattle.poet_io.specs.Faults.{HasCause};
 ghost use Rattle.poet_io.specs.Reads.{IsWhole, ReadRefused};
 ghost use Rattle.poet_io.specs.Shelves.{Files, Opened, ReadTook};
-ghost use Rattle.poet_io.specs.declared.shelf.ReadRefusal.TheVariants.{Memory};
+ghost use Rattle.poet_io.specs.declared.shelf.ReadRefusal.TheVariants.{Fault, Memory};
 
 use std::alloc::{AllocError, Global};
 
@@ -53,6 +53,14 @@ pub enum ReadRefusal {
     Memory,
 }
 
+impl From<ShelfFault> for ReadRefusal {
+    ghost from_gives = { λ _ refusal. refusal ≡ Fault };
+
+    fn from(_: ShelfFault) -> Self {
+        ReadRefusal::Fault
+    }
+}
+
 impl From<AllocError> for ReadRefusal {
     ghost from_gives = { λ _ refusal. refusal ≡ Memory };
 
@@ -77,21 +85,19 @@ pub fn read_whole<H: Shelf>(
     ensures whole { IfOk result (λ bytes. IsWhole (H.files shelf.old) name.now limit (H.left shelf.new) bytes.items) }
     ensures refused { IfErr result (ReadRefused (H.files shelf.old) name.now limit (H.is_open shelf.new) (H.left shelf.new) (H.faults shelf.old) (H.faults shelf.new)) }
 {
-    match shelf.open(name) {
-        Ok(true) => {}
-        Ok(false) => return Err(ReadRefusal::Absent),
-        Err(_) => return Err(ReadRefusal::Fault),
+    if !shelf.open(name)? {
+        return Err(ReadRefusal::Absent);
     }
     let mut bytes = Vec::new(alloc);
     let mut buf = [0; PIECE];
     while bytes.len() <= limit {
         let most = (limit - bytes.len() + 1).min(PIECE);
         let piece = &mut buf[..most];
-        match shelf.read(piece) {
-            Ok(0) => return Ok(bytes),
-            Ok(n) => bytes.extend_from_slice(&piece[..n])?,
-            Err(_) => return Err(ReadRefusal::Fault),
+        let n = shelf.read(piece)?;
+        if n == 0 {
+            return Ok(bytes);
         }
+        bytes.extend_from_slice(&piece[..n])?;
     }
     Err(ReadRefusal::TooLong)
 }

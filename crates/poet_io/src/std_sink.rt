@@ -42,11 +42,13 @@ impl<W: Write> Sink for StdSink<W> {
         ensures took { SinkTook None None bytes.now result }
         ensures counted { IsCounted self.old self.new result }
     {
-        if let Some(n) = write_and_flush(&mut self.to, bytes) {
-            return Ok(n);
+        match write_and_flush(&mut self.to, bytes) {
+            Some(n) => Ok(n),
+            None => {
+                self.faults = self.faults.saturating_add(1);
+                Err(SinkFault)
+            }
         }
-        self.faults = self.faults.saturating_add(1);
-        Err(SinkFault)
     }
 }
 

@@ -29,7 +29,8 @@ pub fn write_all<O: Sink>(out: &mut O, bytes: &[u8]) -> Result<(), SinkFault>
 {
     let mut at = 0;
     while at < bytes.len() {
-        at += out.write(&bytes[at..])?;
+        let n = out.write(&bytes[at..])?;
+        at += n;
     }
     Ok(())
 }

@@ -1,0 +1,9 @@
+pub mod Calls
+pub mod Faults
+pub mod FileShelves
+pub mod MemFiles
+pub mod MemShelves
+pub mod MemSinks
+pub mod Reads
+pub mod Shelves
+pub mod Sinks

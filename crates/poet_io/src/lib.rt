@@ -1,0 +1,20 @@
+//! The outside of the tool: shelves of named files and sinks of bytes, which count their faults.
+#![tactic(auto)]
+
+mod calls;
+mod file_shelf;
+mod mem_shelf;
+mod mem_sink;
+mod shelf;
+mod sink;
+mod std_sink;
+
+pub use file_shelf::FileShelf;
+pub use mem_shelf::MemShelf;
+pub use mem_sink::MemSink;
+pub use shelf::{ReadRefusal, Shelf, ShelfFault, read_whole};
+pub use sink::{Sink, SinkFault, write_all, write_parts};
+pub use std_sink::StdSink;
+
+#[cfg(test)]
+mod tests;

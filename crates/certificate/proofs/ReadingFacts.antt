@@ -4,7 +4,7 @@ use Rattle.std.proofs.lemmas.Bool.{both_ways}
 use Rattle.certificate.specs.Text.{Parses}
 use Rattle.certificate.specs.Reading.{IsReading, IsRefusedLine, IsRefusedAt, newlines}
 use Rattle.certificate.specs.Steps.{steps_of}
-use Rattle.certificate.specs.Parsing.{cert_of_text, entries_of, Gives}
+use Rattle.certificate.specs.Parsing.{cert_of_text, entries_of}
 use Rattle.certificate.specs.Machine.{after_bytes, beginning, is_over_at, start, walk}
 use Rattle.certificate.specs.declared.cert.Entry.{Entry}
 use Rattle.certificate.specs.declared.cert.Cert.{Cert}

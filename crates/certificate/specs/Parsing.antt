@@ -1,9 +1,9 @@
 -- The certificate that lines make, and the reading of any bytes.
-use Rattle.std.specs.Prelude.{◌≡◌, ◌≢◌, ℕ, List, [], ◌∷◌, ◌++◌, fold, if◌then◌else◌, Result, Ok, Err}
+use Rattle.std.specs.Prelude.{ℕ, List, [], ◌∷◌, ◌++◌, fold, if◌then◌else◌, Result, Ok, Err}
 use Rattle.certificate.specs.declared.cert.Entry.{Entry}
 use Rattle.certificate.specs.declared.cert.Cert.{Cert}
 use Rattle.certificate.specs.declared.refusal.CertRefusal.{CertRefusal}
-use Rattle.certificate.specs.declared.refusal.CertRefusal.TheVariants.{Text, Memory}
+use Rattle.certificate.specs.declared.refusal.CertRefusal.TheVariants.{Text}
 use Rattle.certificate.specs.declared.step.LineStep.{LineStep}
 use Rattle.certificate.specs.declared.step.LineStep.TheVariants as says
 use Rattle.certificate.specs.Machine.{walk, start, after_bytes, beginning, is_over_at}
@@ -33,8 +33,3 @@ unfoldable pub cert_of_text : List ℕ → Result Cert CertRefusal
 cert_of_text bytes =
     let l = after_bytes beginning bytes in
     if is_over_at l.place.expected then Ok (record { entries = entries_of (walk [] start bytes).0 }) else Err (Text l.line)
-
--- what a reader answers, unless it wants memory, where this is the reading
-abbrev pub Gives : Result Cert CertRefusal → Result Cert CertRefusal → Type 0
-Gives (Ok c) reading = reading ≡ Ok c
-Gives (Err e) reading = e ≢ Memory → reading ≡ Err e

@@ -1,5 +1,5 @@
 -- What reading a text gives: its certificate, or the line that is refused.
-use Rattle.std.specs.Prelude.{◌≡◌, ℕ, ◌+◌, ◌≤◌, ◌==◌, List, ◌++◌, length, count_by, Result, Ok, Err}
+use Rattle.std.specs.Prelude.{◌≡◌, ◌≢◌, ℕ, ◌+◌, ◌≤◌, ◌==◌, List, ◌++◌, length, count_by, Result, Ok, Err}
 use Rattle.certificate.specs.Text.{Parses}
 use Rattle.certificate.specs.declared.cert.Cert.{Cert}
 use Rattle.certificate.specs.declared.refusal.CertRefusal.{CertRefusal}
@@ -34,3 +34,8 @@ abbrev pub IsReading : List ℕ → Result Cert CertRefusal → Type 0
 IsReading bytes (Ok c) = Parses bytes c
 IsReading bytes (Err (Text n)) = IsRefusedAt bytes n
 IsReading bytes (Err Memory) = ⊥
+
+-- the answer is this reading, unless memory ran out
+abbrev pub Gives : Result Cert CertRefusal → Result Cert CertRefusal → Type 0
+Gives (Ok c) reading = reading ≡ Ok c
+Gives (Err e) reading = e ≢ Memory → reading ≡ Err e

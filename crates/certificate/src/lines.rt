@@ -4,7 +4,7 @@ ghost use Rattle.std.specs.Prelude.{◌≡◌, ◌<◌, ◌↔◌, ◌==◌, ◌
 ghost use Rattle.certificate.specs.Text.{Parses};
 ghost use Rattle.certificate.specs.Reading.{BeginsText, IsRefusedLine, newlines};
 ghost use Rattle.certificate.specs.Steps.{steps_of};
-ghost use Rattle.certificate.specs.Machine.{StandsFor, after_byte, beginning, next, is_good_at};
+ghost use Rattle.certificate.specs.Machine.{StandsFor, after_byte, next, is_good_at};
 ghost use Rattle.certificate.specs.declared.cert.Cert.{Cert};
 
 use crate::place::Place;
@@ -26,7 +26,7 @@ fn next_line(line: u64, byte: u8, place: Place) -> u64
 /// A certificate's text as it comes, byte by byte.
 ///
 /// It keeps no byte. `StandsFor` says which bytes it was fed.
-#[derive(Drop)]
+#[derive(Debug, Drop)]
 pub struct Lines {
     place: Place,
     line: u64,
@@ -46,8 +46,7 @@ impl Model for Lines {
 impl Lines {
     /// Before the first byte.
     pub fn new() -> Lines
-        ensures beginning { result ≡ beginning }
-        ensures stands { StandsFor result [] }
+        ensures { StandsFor result [] }
     {
         Lines {
             place: Place::new(),

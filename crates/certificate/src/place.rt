@@ -1,23 +1,30 @@
-//! Where a text of a certificate stands.
+//! Where a certificate's text stands after some bytes.
+//!
+//! A text is words, which are fixed, and numbers. What comes next is always one of the two, so a
+//! place needs no memory, and one byte leads from place to place.
 
 ghost use Rattle.std.specs.Prelude.{◌≡◌, ◌<◌, ◌≤◌, ◌+◌, ℕ, length, slice_index};
 ghost use Rattle.certificate.specs.Machine.{word_text, after_word, word_step, least, greatest, ender, at_place, bad, after_point, after_number, in_word, first_digit, more_digits, next, start, is_good_at, is_over_at, IsRightField, IsPlace};
 ghost use Rattle.certificate.specs.declared.step.LineStep.TheVariants.{More};
 
-use poet_io::put_number;
 use crate::step::LineStep;
+use poet_io::put_number;
 
-/// A part of the text that is always the same, but for a task's number.
-#[derive(Clone, Copy, Debug, PartialEq, Eq)]
+/// A part of the text that is fixed at its place.
+#[derive(Clone, Copy, Debug)]
 pub enum Word {
+    /// Line 1, and line 2 up to its number.
     Head,
+    /// The front of an entry's line. The task's number is part of it, since the place fixes it.
     Task,
+    /// The front of a point's line.
     Point,
+    /// The last line, with its newline.
     End,
 }
 
 /// A number, with those that came before it in its line.
-#[derive(Clone, Copy, Debug, PartialEq, Eq)]
+#[derive(Clone, Copy, Debug)]
 pub enum Field {
     Tasks,
     Window,
@@ -28,7 +35,7 @@ pub enum Field {
 }
 
 /// What must come next.
-#[derive(Clone, Copy, Debug, PartialEq, Eq)]
+#[derive(Clone, Copy, Debug)]
 pub enum Expected {
     /// The rest of a word, of which so many bytes have come.
     Rest(Word, usize),
@@ -36,13 +43,15 @@ pub enum Expected {
     Number(Field),
     /// More digits after those that stand for this, or the end of the number.
     Digits(Field, u64),
+    /// No byte: the text is whole.
     Over,
+    /// No byte: no certificate's text begins so.
     Nothing,
 }
 
-/// A place in the text: what must come next, in which entry,
-/// how many entries follow it, and how many of its points are still to come.
-#[derive(Clone, Copy, Debug, PartialEq, Eq)]
+/// A place in the text: what must come next, in which task's entry, how many entries follow it,
+/// and how many of its points are still to come.
+#[derive(Clone, Copy, Debug)]
 pub struct Place {
     pub expected: Expected,
     pub task: u32,

@@ -2,8 +2,8 @@
 
 ghost use Rattle.std.specs.Prelude.{◌≡◌, ◌≢◌, OnOk, IfOk, IfErr};
 ghost use Rattle.certificate.specs.Text.{Parses};
-ghost use Rattle.certificate.specs.Reading.{IsReading};
-ghost use Rattle.certificate.specs.Parsing.{add_point, add_step, cert_of_text, Gives};
+ghost use Rattle.certificate.specs.Reading.{IsReading, Gives};
+ghost use Rattle.certificate.specs.Parsing.{add_point, add_step, cert_of_text};
 
 use crate::cert::{Cert, Entry};
 use crate::lines::Lines;
@@ -16,11 +16,13 @@ use std::alloc::{AllocError, Global};
 fn add_point(entries: &mut Vec<Entry>, offset: u64, end: u64) -> Result<(), AllocError>
     ensures { OnOk result (entries.new.items ≡ add_point entries.old.items (offset, end)) }
 {
-    let Some(Entry {
-        window,
-        bound,
-        points,
-    }) = entries.pop()
+    let Some(
+        Entry {
+            window,
+            bound,
+            points,
+        },
+    ) = entries.pop()
     else {
         return Ok(());
     };

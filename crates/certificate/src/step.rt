@@ -15,7 +15,10 @@ pub enum LineStep {
         count: u32,
     },
     /// A point of the entry before, in ticks.
-    Point { offset: u64, end: u64 },
+    Point {
+        offset: u64,
+        end: u64,
+    },
     /// The certificate is over.
     End,
     /// No certificate's text begins so.

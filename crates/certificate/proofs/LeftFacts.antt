@@ -1,13 +1,12 @@
 -- What may follow at each place: what leads over the end is the text of a certificate.
-use Rattle.std.proofs.Common.{◌≡◌, ℕ, suc, zero, ◌+◌, ◌-◌, ◌*◌, ◌<◌, ◌≤◌, ◌==◌, Bool, true, false, not, ◌&&◌, nat_le, List, [], ◌∷◌, ◌++◌, length, get_or, drop, slice_index, codes, refl, sym, ap, subst, ◌∙◌, arith, append_assoc, decimal, All}
+use Rattle.std.proofs.Common.{◌≡◌, ℕ, suc, zero, ◌+◌, ◌-◌, ◌*◌, ◌<◌, ◌≤◌, ◌==◌, not, ◌&&◌, nat_le, List, [], ◌∷◌, ◌++◌, length, get_or, drop, slice_index, codes, refl, sym, ap, subst, ◌∙◌, arith, append_assoc, decimal, All}
 use Rattle.std.specs.List.{flat_map}
 use Rattle.std.proofs.lemmas.List.Elements.{All-nil, All-cons}
 use Rattle.std.specs.Char.{is_ascii_digit}
 use Rattle.std.proofs.lemmas.List.{append-nil, drop_more, drop_all}
-use Rattle.std.proofs.lemmas.Bool.Decides.{nat_tests}
 use Rattle.std.proofs.lemmas.Fmt.{decimal_digit}
 use Rattle.std.proofs.lemmas.Bool.{and_parts}
-use Rattle.poet_io.proofs.DecimalFacts.{decimal_more, digit_from_test}
+use Rattle.poet_io.proofs.DecimalFacts.{decimal_more}
 use Rattle.certificate.proofs.FieldFacts.{cases, eq_from_test, le_from_test, positive_from_test, digit_and, greatest_small}
 use Rattle.certificate.specs.Text.{point_text, entries_text, IsPoint, IsEntry, Parses}
 use Rattle.certificate.specs.declared.cert.Entry.{Entry}

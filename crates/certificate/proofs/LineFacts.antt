@@ -1,7 +1,6 @@
 -- Each byte leads from a place to a place, and the lines fit.
-use Rattle.std.proofs.Common.{◌≡◌, ℕ, suc, zero, ◌+◌, ◌-◌, ◌*◌, ◌<◌, ◌≤◌, ◌==◌, Bool, true, false, not, ◌&&◌, cond, nat_le, length, slice_index, codes, refl, arith, decimal, length-append}
+use Rattle.std.proofs.Common.{◌≡◌, ℕ, suc, zero, ◌+◌, ◌-◌, ◌*◌, ◌<◌, ◌≤◌, ◌==◌, false, not, ◌&&◌, cond, nat_le, length, slice_index, codes, refl, arith, decimal, length-append}
 use Rattle.std.specs.Char.{is_ascii_digit}
-use Rattle.std.proofs.lemmas.Bool.Decides.{nat_tests}
 use Rattle.std.proofs.lemmas.Bool.{and_parts}
 use Rattle.poet_io.proofs.DecimalFacts.{digit_from_test}
 use Rattle.certificate.proofs.FieldFacts.{cases, eq_from_test, ne_from_test, le_from_test, digit_is_inside, nine_fits}

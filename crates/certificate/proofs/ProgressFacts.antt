@@ -9,7 +9,7 @@ use Rattle.certificate.specs.Reading.{BeginsText, IsRefusedLine, newlines}
 use Rattle.certificate.specs.Steps.{steps_of}
 use Rattle.certificate.specs.Progress.{Progress}
 use Rattle.certificate.specs.declared.cert.Cert.{Cert}
-use Rattle.certificate.proofs.FieldFacts.{cases, eq_from_test}
+use Rattle.certificate.proofs.FieldFacts.{eq_from_test}
 use Rattle.certificate.specs.Machine.{word_text, after_word, least, greatest, ender, at_place, after_point, after_number, StandsFor, after_byte, after_bytes, beginning, is_good_at, is_over_at, IsProgress, word_step, next, start, IsPlace, bad, walk}
 use Rattle.certificate.specs.declared.place.Word.{Word}
 use Rattle.certificate.specs.declared.place.Word.TheVariants as word

@@ -1,5 +1,5 @@
 -- Any bytes have one reading.
-use Rattle.std.proofs.Common.{◌≡◌, ◌≢◌, ℕ, ◌+◌, ◌≤◌, Bool, true, false, IsTrue, ◌↔◌, List, [], ◌∷◌, ◌++◌, length, refl, sym, ap, subst, ◌∙◌, inl, inr, arith, Result, Ok, Err}
+use Rattle.std.proofs.Common.{◌≡◌, ℕ, ◌+◌, Bool, false, IsTrue, ◌↔◌, List, [], ◌∷◌, ◌++◌, length, refl, sym, ap, subst, ◌∙◌, arith, Result, Ok, Err}
 use Rattle.std.proofs.lemmas.Bool.{both_ways}
 use Rattle.certificate.specs.Text.{Parses}
 use Rattle.certificate.specs.Reading.{IsReading, IsRefusedLine, IsRefusedAt, newlines}
@@ -56,9 +56,9 @@ reading_single b (Err (Text m)) (Err (Text n)) h k = ap (λ (n : ℕ). Err (Text
 reading_single b (Err (Text m)) (Err Memory) h k = absurd k
 reading_single b (Err Memory) s h k = absurd h
 
--- an answer that is a reading is the one reading
-pub given : (b : List ℕ) (r : Result Cert CertRefusal) → IsReading b r → cert_of_text b ≡ r
-given b r h = reading_single b (cert_of_text b) r (reading_exists b) h
+-- a reading of the bytes is what `cert_of_text` gives
+pub cert_of_text-reading : (b : List ℕ) (r : Result Cert CertRefusal) → IsReading b r → cert_of_text b ≡ r
+cert_of_text-reading b r h = reading_single b (cert_of_text b) r (reading_exists b) h
 
 -- the bytes that were all fed, and are no certificate's text
 pub refused_all : (b bytes : List ℕ) (over : Bool) (n : ℕ) → b ≡ bytes → (IsTrue over ↔ ((c : Cert) × Parses b c)) → over ≡ false → IsRefusedLine b n → IsRefusedAt bytes n

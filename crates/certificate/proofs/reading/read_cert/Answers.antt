@@ -2,7 +2,7 @@ use Rattle.std.proofs.Common.{◌≡◌, ◌+◌, ◌∷◌, ◌++◌, [], get_o
 use Rattle.std.proofs.lemmas.List.{take_more, take_all}
 use Rattle.certificate.specs.Parsing.{add_step}
 use Rattle.certificate.proofs.StepFacts.{so_far_next, found_all, add_step-quiet}
-use Rattle.certificate.proofs.ReadingFacts.{given, refused_all}
+use Rattle.certificate.proofs.ReadingFacts.{cert_of_text-reading, refused_all}
 use Rattle.certificate.proofs.reading.read_cert.Goals as goal
 
 pub loop-byte-preserved : goal.loop-byte-preserved
@@ -26,11 +26,11 @@ returns-then-is_over-clause-found c =
     rw c.new.ensures (found_all c.loop-byte.entries.items b bs p.0 (take_all c.loop-byte.byte-index bs (omega arith)) p.1 c.loop-byte.invariant.so_far)
 
 pub returns-then-is_over-clause-gives : goal.returns-then-is_over-clause-gives
-returns-then-is_over-clause-gives c = given _ _ (returns-then-is_over-clause-found c)
+returns-then-is_over-clause-gives c = cert_of_text-reading _ _ (returns-then-is_over-clause-found c)
 
 pub returns-else-is_over-clause-gives : goal.returns-else-is_over-clause-gives
 returns-else-is_over-clause-gives c =
     let bs = c.args.bytes.now in
     let b = take c.loop-byte.byte-index bs in
     let stands = c.loop-byte.invariant.stands in
-    λ no_memory. given bs _ (refused_all b bs c.is_over.result c.line.result (take_all c.loop-byte.byte-index bs (omega arith)) (c.is_over.ensures b stands) c.if-is_over.false (c.line.ensures b stands))
+    λ no_memory. cert_of_text-reading bs _ (refused_all b bs c.is_over.result c.line.result (take_all c.loop-byte.byte-index bs (omega arith)) (c.is_over.ensures b stands) c.if-is_over.false (c.line.ensures b stands))

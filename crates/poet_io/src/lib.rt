@@ -1,10 +1,12 @@
-//! The outside of the tool: shelves of named files and sinks of bytes, which count their faults.
+//! The outside of the tool: shelves of named files and sinks of bytes, which count their faults, and
+//! the numbers of its texts.
 #![tactic(auto)]
 
 mod calls;
 mod file_shelf;
 mod mem_shelf;
 mod mem_sink;
+pub mod numbers;
 mod shelf;
 mod sink;
 mod std_sink;
@@ -12,6 +14,7 @@ mod std_sink;
 pub use file_shelf::FileShelf;
 pub use mem_shelf::MemShelf;
 pub use mem_sink::MemSink;
+pub use numbers::{put_number, read_number};
 pub use shelf::{ReadRefusal, Shelf, ShelfFault, read_whole};
 pub use sink::{Sink, SinkFault, write_all, write_parts};
 pub use std_sink::StdSink;

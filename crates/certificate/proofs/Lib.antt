@@ -1,0 +1,7 @@
+pub mod FieldFacts
+pub mod WalkFacts
+pub mod LeftFacts
+pub mod LineFacts
+pub mod ProgressFacts
+pub mod StepFacts
+pub mod ReadingFacts

@@ -1,0 +1,6 @@
+pub mod Text
+pub mod Reading
+pub mod Steps
+pub mod Progress
+pub mod Machine
+pub mod Parsing

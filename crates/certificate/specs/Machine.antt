@@ -1,0 +1,200 @@
+-- Where a certificate's text stands after some bytes, and what the next byte does.
+use Rattle.std.specs.Prelude.{◌≡◌, ℕ, suc, zero, ◌+◌, ◌-◌, ◌*◌, ◌<◌, ◌≤◌, ◌==◌, Bool, true, false, not, ◌&&◌, if◌then◌else◌, nat_le, List, [], ◌∷◌, ◌++◌, length, slice_index, codes, decimal}
+use Rattle.std.specs.Char.{is_ascii_digit}
+use Rattle.certificate.specs.Text.{limit}
+use Rattle.certificate.specs.Progress.{Progress}
+use Rattle.certificate.specs.declared.place.Word.{Word}
+use Rattle.certificate.specs.declared.place.Word.TheVariants as word
+use Rattle.certificate.specs.declared.place.Field.{Field}
+use Rattle.certificate.specs.declared.place.Field.TheVariants as field
+use Rattle.certificate.specs.declared.place.Expected.{Expected}
+use Rattle.certificate.specs.declared.place.Expected.TheVariants.{Rest, Number, Digits, Over, Nothing}
+use Rattle.certificate.specs.declared.place.Place.{Place}
+use Rattle.certificate.specs.declared.step.LineStep.{LineStep}
+use Rattle.certificate.specs.declared.step.LineStep.TheVariants as says
+
+-- the bytes of a word, at the i-th entry
+abbrev pub word_text : Word → ℕ → List ℕ
+word_text word.Head i = codes "poet-cert 1\n" ++ codes "tasks "
+word_text word.Task i = codes "task " ++ (decimal i ++ codes " ")
+word_text word.Point i = codes "p "
+word_text word.End i = codes "end\n"
+
+-- what comes behind a word
+abbrev pub after_word : Word → Expected
+after_word word.Head = Number field.Tasks
+after_word word.Task = Number field.Window
+after_word word.Point = Number field.Offset
+after_word word.End = Over
+
+-- what the last byte of a word says
+abbrev pub word_step : Word → LineStep
+word_step word.End = says.End
+word_step _ = says.More
+
+-- the least number of a field
+abbrev pub least : Field → ℕ
+least field.Tasks = 1
+least (field.Count w r) = 1
+least _ = 0
+
+-- the greatest number of a field
+abbrev pub greatest : Field → ℕ
+greatest field.Tasks = 256
+greatest (field.Count w r) = 1000000
+greatest _ = limit
+
+-- the byte behind a field's number: a newline or a space
+abbrev pub ender : Field → ℕ
+ender field.Tasks = 10
+ender (field.Count w r) = 10
+ender (field.Finish a) = 10
+ender _ = 32
+
+-- the place with this expected, in the i-th entry, when m entries and k points follow
+abbrev pub at_place : Expected → ℕ → ℕ → ℕ → Place
+at_place e i m k = record { expected = e; task = i; after = m; points = k }
+
+-- no certificate's text begins so
+abbrev pub bad : Place × LineStep
+bad = (at_place Nothing 0 0 0, says.Bad)
+
+-- behind the i-th entry, when m follow
+abbrev pub after_entry : ℕ → ℕ → Place
+after_entry i zero = at_place (Rest word.End 0) 0 0 0
+after_entry i (suc m) = at_place (Rest word.Task 0) (suc i) m 0
+
+-- behind a point of the i-th entry, when m entries follow and k points are still to come
+abbrev pub after_point : ℕ → ℕ → ℕ → Place
+after_point i m zero = after_entry i m
+after_point i m (suc k) = at_place (Rest word.Point 0) i m (suc k)
+
+-- behind a field's number n
+abbrev pub after_number : ℕ → ℕ → ℕ → Field → ℕ → Place × LineStep
+after_number i m k field.Tasks n = (at_place (Rest word.Task 0) 0 (n - 1) 0, says.Tasks n)
+after_number i m k field.Window n = (at_place (Number (field.Bound n)) i m k, says.More)
+after_number i m k (field.Bound w) n = (at_place (Number (field.Count w n)) i m k, says.More)
+after_number i m k (field.Count w r) n = (at_place (Rest word.Point 0) i m n, says.Entry i w r n)
+after_number i m k field.Offset n = (at_place (Number (field.Finish n)) i m k, says.More)
+after_number i m k (field.Finish a) n = (after_point i m (k - 1), says.Point a n)
+
+-- the byte x where the word's byte `at` must come
+abbrev pub in_word : ℕ → ℕ → ℕ → Word → ℕ → ℕ → Place × LineStep
+in_word i m k w at x =
+    let text = word_text w i in
+    if slice_index text at == x then (if at + 1 == length text then (at_place (after_word w) i m k, word_step w) else (at_place (Rest w (at + 1)) i m k, says.More)) else bad
+
+-- the byte x where a field's first digit must come
+abbrev pub first_digit : ℕ → ℕ → ℕ → Field → ℕ → Place × LineStep
+first_digit i m k f x =
+    if is_ascii_digit x && nat_le (least f) (x - 48) then (at_place (Digits f (x - 48)) i m k, says.More) else bad
+
+-- the byte x behind digits that stand for v
+abbrev pub more_digits : ℕ → ℕ → ℕ → Field → ℕ → ℕ → Place × LineStep
+more_digits i m k f v x =
+    if x == ender f then after_number i m k f v else
+    (if is_ascii_digit x && (not (v == 0) && nat_le (v * 10 + (x - 48)) (greatest f)) then (at_place (Digits f (v * 10 + (x - 48))) i m k, says.More) else bad)
+
+-- the byte x where `e` is expected
+abbrev pub next_at : Expected → ℕ → ℕ → ℕ → ℕ → Place × LineStep
+next_at (Rest w at) i m k x = in_word i m k w at x
+next_at (Number f) i m k x = first_digit i m k f x
+next_at (Digits f v) i m k x = more_digits i m k f v x
+next_at Over i m k x = bad
+next_at Nothing i m k x = bad
+
+-- the place after one more byte, and what the byte says
+abbrev pub next : Place → ℕ → Place × LineStep
+next p x = next_at p.expected p.task p.after p.points x
+
+-- a point's word comes only where a point is still to come
+abbrev pub IsRightWord : Word → ℕ → Type 0
+IsRightWord word.Point k = 1 ≤ k
+IsRightWord _ k = Unit {0}
+
+-- a point's number comes only where a point is still to come
+abbrev pub IsRightField : Field → ℕ → Type 0
+IsRightField field.Offset k = 1 ≤ k
+IsRightField (field.Finish a) k = 1 ≤ k
+IsRightField _ k = Unit {0}
+
+-- a word has a byte left, and the digits so far stand for a number of the field
+abbrev pub IsRight : Expected → ℕ → ℕ → Type 0
+IsRight (Rest w at) i k = (at < length (word_text w i)) × IsRightWord w k
+IsRight (Number f) i k = IsRightField f k
+IsRight (Digits f v) i k = (least f ≤ v) × (v ≤ greatest f) × IsRightField f k
+IsRight Over i k = Unit {0}
+IsRight Nothing i k = Unit {0}
+
+-- a place that bytes can lead to
+pub record IsPlace (p : Place) : Type 0 where
+  pub few : p.task + p.after < 256
+  pub points : p.points ≤ 1000000
+  pub right : IsRight p.expected p.task p.points
+
+-- before the first byte
+abbrev pub start : Place
+start = at_place (Rest word.Head 0) 0 0 0
+
+-- some certificate's text begins as what led here
+abbrev pub is_good_at : Expected → Bool
+is_good_at Nothing = false
+is_good_at _ = true
+
+-- what led here is a certificate's text
+abbrev pub is_over_at : Expected → Bool
+is_over_at Over = true
+is_over_at _ = false
+
+-- how far a text was read, one byte on
+abbrev pub after_byte : Progress → ℕ → Progress
+after_byte l x =
+    let p = (next l.place x).0 in
+    record { place = p; line = (if x == 10 && is_good_at p.expected then l.line + 1 else l.line) }
+
+-- how far a text was read, more bytes on
+abbrev pub after_bytes : Progress → List ℕ → Progress
+after_bytes l [] = l
+after_bytes l (x ∷ xs) = after_bytes (after_byte l x) xs
+
+-- nothing was read
+abbrev pub beginning : Progress
+beginning = record { place = start; line = 1 }
+
+-- the value stands for the bytes that were fed
+pub record StandsFor (l : Progress) (bytes : List ℕ) : Type 0 where
+  pub is : l ≡ after_bytes beginning bytes
+
+-- what the lines say that end in the bytes, behind what was said before, and the place after them
+abbrev pub walk : List LineStep → Place → List ℕ → List LineStep × Place
+walk ss p [] = (ss, p)
+walk ss p (x ∷ t) = walk (if x == 10 then ss ++ (next p x).1 ∷ [] else ss) (next p x).0 t
+
+-- a line that the place does not pass, so that 64 bits hold it: each byte of a word is counted as if it ended a line
+abbrev pub most_word : Word → ℕ → ℕ → ℕ → ℕ
+most_word word.Head at i k = 1 + at
+most_word word.Task at i k = 20 + i * 3000027 + at
+most_word word.Point at i k = 47 + i * 3000027 + 3 * (1000000 - k) + at
+most_word word.End at i k = 768006932 + at
+
+-- the same, at a field
+abbrev pub most_field : Field → ℕ → ℕ → ℕ
+most_field field.Tasks i k = 19
+most_field field.Window i k = 46 + i * 3000027
+most_field (field.Bound w) i k = 46 + i * 3000027
+most_field (field.Count w r) i k = 46 + i * 3000027
+most_field field.Offset i k = 49 + i * 3000027 + 3 * (1000000 - k)
+most_field (field.Finish a) i k = 49 + i * 3000027 + 3 * (1000000 - k)
+
+-- the same, where `e` is expected
+abbrev pub most : Expected → ℕ → ℕ → ℕ
+most (Rest w at) i k = most_word w at i k
+most (Number f) i k = most_field f i k
+most (Digits f v) i k = most_field f i k
+most Over i k = 768006936
+most Nothing i k = 768006937
+
+-- a place and a line that bytes can lead to
+pub record IsProgress (place : Place) (line : ℕ) : Type 0 where
+  pub right : IsPlace place
+  pub small : line ≤ most place.expected place.task place.points

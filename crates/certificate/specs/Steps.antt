@@ -1,0 +1,19 @@
+-- What the lines of a certificate's text say.
+use Rattle.std.specs.Prelude.{ℕ, suc, List, [], ◌∷◌, ◌++◌, length, map}
+use Rattle.certificate.specs.declared.cert.Entry.{Entry}
+use Rattle.certificate.specs.declared.cert.Cert.{Cert}
+use Rattle.certificate.specs.declared.step.LineStep.{LineStep}
+use Rattle.certificate.specs.declared.step.LineStep.TheVariants as says
+
+-- what the line of a point says
+abbrev pub point_step : ℕ × ℕ → LineStep
+point_step p = says.Point p.0 p.1
+
+-- what the lines of these entries say, the first of which is the i-th of the certificate
+abbrev pub entries_steps : ℕ → List Entry → List LineStep
+entries_steps i [] = []
+entries_steps i (e ∷ es) = says.Entry i e.window e.bound (length e.points) ∷ (map point_step e.points ++ entries_steps (suc i) es)
+
+-- what the lines of the certificate's text say, one after the other; line 1 has no meaning
+abbrev pub steps_of : Cert → List LineStep
+steps_of c = says.More ∷ (says.Tasks (length c.entries) ∷ (entries_steps 0 c.entries ++ says.End ∷ []))

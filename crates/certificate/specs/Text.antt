@@ -1,0 +1,52 @@
+-- The one text of each certificate.
+use Rattle.std.specs.Prelude.{◌≡◌, ℕ, suc, ◌≤◌, List, [], ◌∷◌, ◌++◌, length, codes, decimal, All}
+use Rattle.std.specs.List.{flat_map}
+use Rattle.certificate.specs.declared.cert.Entry.{Entry}
+use Rattle.certificate.specs.declared.cert.Cert.{Cert}
+
+-- the line of a point: p OFFSET END
+abbrev pub point_text : ℕ × ℕ → List ℕ
+point_text p = codes "p " ++ (decimal p.0 ++ (codes " " ++ (decimal p.1 ++ codes "\n")))
+
+-- the first line of the i-th entry: task I WINDOW BOUND COUNT
+abbrev pub entry_line : ℕ → Entry → List ℕ
+entry_line i e =
+    codes "task " ++ (decimal i ++ (codes " " ++ (decimal e.window ++ (codes " " ++ (decimal e.bound ++ (codes " " ++ (decimal (length e.points) ++ codes "\n")))))))
+
+-- the lines of these entries, the first of which is the i-th of the certificate
+abbrev pub entries_text : ℕ → List Entry → List ℕ
+entries_text i [] = []
+entries_text i (e ∷ es) = entry_line i e ++ (flat_map point_text e.points ++ entries_text (suc i) es)
+
+-- the text of a certificate, spelled
+abbrev pub text_of : Cert → List ℕ
+text_of c =
+    codes "poet-cert 1\n" ++ (codes "tasks " ++ (decimal (length c.entries) ++ (codes "\n" ++ (entries_text 0 c.entries ++ codes "end\n"))))
+
+-- the greatest number that a certificate's text may have
+abbrev pub limit : ℕ
+limit = 1000000000
+
+-- a point's numbers are in range
+pub record IsPoint (p : ℕ × ℕ) : Type 0 where
+  pub offset : p.0 ≤ limit
+  pub end : p.1 ≤ limit
+
+-- an entry's numbers are in range, and it has 1 to 1000000 points
+pub record IsEntry (e : Entry) : Type 0 where
+  pub window : e.window ≤ limit
+  pub bound : e.bound ≤ limit
+  pub some : 1 ≤ length e.points
+  pub few : length e.points ≤ 1000000
+  pub points : All IsPoint e.points
+
+-- the certificate has 1 to 256 entries, each within the grammar
+pub record IsWithinGrammar (c : Cert) : Type 0 where
+  pub some : 1 ≤ length c.entries
+  pub few : length c.entries ≤ 256
+  pub entries : All IsEntry c.entries
+
+-- the bytes are the text of the certificate
+pub record Parses (bytes : List ℕ) (c : Cert) : Type 0 where
+  pub within : IsWithinGrammar c
+  pub text : bytes ≡ text_of c

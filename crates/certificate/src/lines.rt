@@ -1,0 +1,95 @@
+//! A certificate's text as it comes, byte by byte.
+
+ghost use Rattle.std.specs.Prelude.{◌≡◌, ◌<◌, ◌↔◌, ◌==◌, ◌&&◌, ◌+◌, ℕ, [], ◌∷◌, ◌++◌, List, if◌then◌else◌, IsTrue, slice_index_or};
+ghost use Rattle.certificate.specs.Text.{Parses};
+ghost use Rattle.certificate.specs.Reading.{BeginsText, IsRefusedLine, newlines};
+ghost use Rattle.certificate.specs.Steps.{steps_of};
+ghost use Rattle.certificate.specs.Machine.{StandsFor, after_byte, next, is_good_at};
+ghost use Rattle.certificate.specs.declared.cert.Cert.{Cert};
+
+use crate::place::Place;
+use crate::step::LineStep;
+use std::marker::Model;
+
+/// The line after one more byte that led to `place`, where bytes led to line `line` before.
+fn next_line(line: u64, byte: u8, place: Place) -> u64
+    requires { line < 1000000000 }
+    ensures { result ≡ (if byte == 10 && is_good_at place.expected then line + 1 else line) }
+{
+    if byte == b'\n' && place.is_good() {
+        line + 1
+    } else {
+        line
+    }
+}
+
+/// A certificate's text as it comes, byte by byte.
+///
+/// It keeps no byte. `StandsFor` says which bytes it was fed.
+#[derive(Debug, Drop)]
+pub struct Lines {
+    place: Place,
+    line: u64,
+}
+
+impl Model for Lines {
+    ghost use Rattle.certificate.specs.Progress.{Progress};
+    ghost use Rattle.certificate.specs.Machine.{IsProgress};
+
+    ghost Value = { Progress };
+
+    ghost view = { λ a. record { place = a.place; line = a.line } };
+
+    ghost invariant = { λ a. IsProgress a.place a.line };
+}
+
+impl Lines {
+    /// Before the first byte.
+    pub fn new() -> Lines
+        ensures { StandsFor result [] }
+    {
+        Lines {
+            place: Place::new(),
+            line: 1,
+        }
+    }
+
+    fn advance(&mut self, byte: u8) -> LineStep
+        ensures progress { self.new ≡ after_byte self.old byte }
+        ensures step { result ≡ (next self.old.place byte).1 }
+    {
+        let (place, step) = self.place.next(byte);
+        let line = next_line(self.line, byte, place);
+        self.place = place;
+        self.line = line;
+        step
+    }
+
+    /// Takes the next byte, and says what the line says that ends with it.
+    pub fn feed(&mut self, byte: u8) -> LineStep
+        ensures stands { (b : List ℕ) → StandsFor self.old b → StandsFor self.new (b ++ byte ∷ []) }
+
+        // Bad exactly where no certificate's text begins so.
+        ensures bad { (b : List ℕ) → StandsFor self.old b → ((result ≡ LineStep.Bad) ↔ (BeginsText (b ++ byte ∷ []) → ⊥)) }
+
+        // For each certificate whose text begins so, a newline says what its line says.
+        ensures says { (b more : List ℕ) (c : Cert) → StandsFor self.old b → Parses (b ++ byte ∷ more) c →
+            result ≡ (if byte == 10 then slice_index_or (steps_of c) (newlines b) LineStep.More else LineStep.More) }
+    {
+        self.advance(byte)
+    }
+
+    /// Whether the bytes so far are a certificate's text.
+    pub fn is_over(&self) -> bool
+        ensures { (b : List ℕ) → StandsFor self.now b → (IsTrue result ↔ ((c : Cert) × Parses b c)) }
+    {
+        self.place.is_over()
+    }
+
+    /// The line that a refusal of the bytes so far names, counted from 1.
+    pub fn line(&self) -> u64
+        ensures { (b : List ℕ) → StandsFor self.now b → IsRefusedLine b result }
+    {
+        self.line
+    }
+}

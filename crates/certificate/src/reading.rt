@@ -1,0 +1,79 @@
+//! Reading a certificate.
+
+ghost use Rattle.std.specs.Prelude.{◌≡◌, ◌≢◌, OnOk, IfOk, IfErr};
+ghost use Rattle.certificate.specs.Text.{Parses};
+ghost use Rattle.certificate.specs.Reading.{IsReading, Gives};
+ghost use Rattle.certificate.specs.Parsing.{add_point, add_step, cert_of_text};
+
+use crate::cert::{Cert, Entry};
+use crate::lines::Lines;
+use crate::refusal::CertRefusal;
+use crate::step::LineStep;
+use lists::Items;
+use std::alloc::{AllocError, Global};
+
+/// Appends a point to the last entry. `Items` gives its `Vec` back, so no point is copied.
+fn add_point(entries: &mut Vec<Entry>, offset: u64, end: u64) -> Result<(), AllocError>
+    ensures { OnOk result (entries.new.items ≡ add_point entries.old.items (offset, end)) }
+{
+    let Some(
+        Entry {
+            window,
+            bound,
+            points,
+        },
+    ) = entries.pop()
+    else {
+        return Ok(());
+    };
+    let mut points = points.into_vec();
+    points.push((offset, end))?;
+    entries.push(Entry {
+        window,
+        bound,
+        points: Items::new(points),
+    })?;
+    Ok(())
+}
+
+/// Takes what a line says.
+fn add_step(alloc: Global, entries: &mut Vec<Entry>, step: LineStep) -> Result<(), AllocError>
+    ensures { OnOk result (entries.new.items ≡ add_step entries.old.items step) }
+{
+    match step {
+        LineStep::Entry { window, bound, .. } => {
+            entries.push(Entry {
+                window,
+                bound,
+                points: Items::new(Vec::new(alloc)),
+            })?;
+            Ok(())
+        }
+        LineStep::Point { offset, end } => add_point(entries, offset, end),
+        _ => Ok(()),
+    }
+}
+
+/// The certificate whose text the bytes are.
+///
+/// Where they are no certificate's text, the refusal names the line of the first byte that is
+/// wrong or missing.
+pub fn read_cert(alloc: Global, bytes: &[u8]) -> Result<Cert, CertRefusal>
+    ensures found { IfOk result (λ cert. Parses bytes.now cert) }
+    ensures refused { IfErr result (λ e. e ≢ CertRefusal.Memory → IsReading bytes.now (Err e)) }
+    ensures gives { Gives result (cert_of_text bytes.now) }
+{
+    let mut lines = Lines::new();
+    let mut entries = Vec::new(alloc);
+    for byte in bytes {
+        let step = lines.feed(*byte);
+        add_step(alloc, &mut entries, step)?;
+    }
+    if lines.is_over() {
+        Ok(Cert {
+            entries: Items::new(entries),
+        })
+    } else {
+        Err(CertRefusal::Text { line: lines.line() })
+    }
+}

@@ -1,0 +1,67 @@
+//! The verdict over the bytes of a certificate.
+ghost use Rattle.std.specs.Prelude.{◌≡◌, IfOk};
+ghost use Rattle.certificate.specs.Text.{IsWithinGrammar};
+ghost use Rattle.preemption.specs.CutLaws.{Serves};
+ghost use Rattle.cert_check.specs.Verdicts.{bounds_of, verdict_of, IsVerdict, IsBoundedBy};
+
+use abstract_rta::points_bound;
+use certificate::{Cert, CertRefusal, read_cert};
+use conditions::{Failed, failed_means, first_failed};
+use lists::Items;
+use policy::Policy;
+use preemption::Preemption;
+use std::alloc::{AllocError, Global};
+use supply::Supply;
+use task_sheet::Sheet;
+
+/// What the bytes of a certificate are worth, for a sheet.
+#[derive(Debug, Drop, PartialEq)]
+pub enum Verdict {
+    /// All conditions hold. The bounds, in ticks and in the tasks' order.
+    Accepted(Items<u64>),
+    /// The bytes are no certificate's text, from this line on.
+    Text { line: u64 },
+    /// The first condition that fails.
+    Refused(Failed),
+}
+
+/// The bounds of a certificate, in the tasks' order.
+fn bounds(alloc: Global, cert: &Cert) -> Result<Items<u64>, AllocError>
+    ensures { IfOk result (λ bounds. bounds ≡ bounds_of cert.now) }
+{
+    let bounds = cert.entries.as_slice().iter().map(|entry| entry.bound).collect(alloc)?;
+    Ok(Items::new(bounds))
+}
+
+/// Judges the text of a certificate for a sheet, and with `deadlines` also that each bound is at
+/// most its task's deadline.
+///
+/// Where the verdict is `Accepted`, the response times of every run that complies with the sheet
+/// are bounded by the bounds.
+#[tactic(auto, unfolding(crate::specs::Verdicts::verdict_of))]
+pub fn check_cert<P: Policy, M: Preemption, S: Supply>(
+    alloc: Global,
+    sheet: &Sheet,
+    supply: &S,
+    deadlines: bool,
+    bytes: &[u8],
+) -> Result<Verdict, AllocError>
+    requires { Serves M.cuts sheet.now }
+    ensures defined { IfOk result (λ v. v ≡ verdict_of P.meaning M.cuts (S.sbf supply.now) sheet.now deadlines bytes.now) }
+    ensures judged { IfOk result (IsVerdict P.meaning M.cuts (S.sbf supply.now) sheet.now deadlines bytes.now) }
+    ensures bounded { IfOk result (IsBoundedBy P.meaning M.cuts (S.sbf supply.now) sheet.now) }
+{
+    let cert = match read_cert(alloc, bytes) {
+        Ok(cert) => cert,
+        Err(CertRefusal::Text { line }) => return Ok(Verdict::Text { line }),
+        Err(CertRefusal::Memory) => return Err(AllocError),
+    };
+    if let Some(failed) = first_failed::<P, M, S>(sheet, supply, &cert, deadlines) {
+        return Ok(Verdict::Refused(failed));
+    }
+    supply.known();
+    failed_means::<P, M, S>();
+    points_bound::<P, M, S>();
+    let _tasks = sheet.len();
+    Ok(Verdict::Accepted(bounds(alloc, &cert)?))
+}

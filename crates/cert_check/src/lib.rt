@@ -1,0 +1,6 @@
+//! Judging the text of a certificate.
+#![tactic(auto)]
+
+mod judging;
+
+pub use judging::{Verdict, check_cert};

@@ -1,0 +1,4 @@
+pub mod Setting
+pub mod Quiet
+pub mod Stretches
+pub mod Laws

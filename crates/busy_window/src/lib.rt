@@ -1,2 +1,28 @@
-//! Laws on stretches in which a set of jobs keeps the processor busy.
+//! Laws of busy stretches, over sets of jobs that are closed upwards in urgency.
+//!
+//! A tick is quiet for such a set where each of its jobs that arrived before is done. A stretch of
+//! ticks is busy where it begins at a quiet tick and a job of the set is pending at each of its ticks.
 #![tactic(auto)]
+
+ghost use Rattle.busy_window.specs.Busy.{RunsInside, OneOutsider, EnoughInside};
+
+use policy::Policy;
+use preemption::Preemption;
+use supply::Supply;
+
+/// A tick of a busy stretch that is not off runs a job of the set, or one outside that cannot be cut.
+pub fn runs_inside<P: Policy, M: Preemption, S: Supply>()
+    ensures { (supply : S) → RunsInside P.meaning M.cuts (S.sbf supply) }
+{}
+
+/// At most one job outside the set runs in a busy stretch: it arrived before the stretch, and runs in
+/// it for less than a segment.
+pub fn one_outsider<P: Policy, M: Preemption, S: Supply>()
+    ensures { (supply : S) → OneOutsider P.meaning M.cuts (S.sbf supply) }
+{}
+
+/// The ticks of a busy stretch that run jobs of the set are as many as the supply promises, less those
+/// of the job outside.
+pub fn enough_inside<P: Policy, M: Preemption, S: Supply>()
+    ensures { (supply : S) → EnoughInside P.meaning M.cuts (S.sbf supply) }
+{}

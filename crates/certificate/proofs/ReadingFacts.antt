@@ -1,7 +1,7 @@
 -- Any bytes have one reading.
 use Rattle.std.proofs.Common.{◌≡◌, ℕ, ◌+◌, Bool, false, IsTrue, ◌↔◌, List, [], ◌∷◌, ◌++◌, length, refl, sym, ap, subst, ◌∙◌, arith, Result, Ok, Err}
 use Rattle.std.proofs.lemmas.Bool.{both_ways}
-use Rattle.certificate.specs.Text.{Parses}
+use Rattle.certificate.specs.Text.{Parses, IsWithinGrammar, text_of}
 use Rattle.certificate.specs.Reading.{IsReading, IsRefusedLine, IsRefusedAt, newlines}
 use Rattle.certificate.specs.Steps.{steps_of}
 use Rattle.certificate.specs.Parsing.{cert_of_text, entries_of}
@@ -63,3 +63,7 @@ cert_of_text-reading b r h = reading_single b (cert_of_text b) r (reading_exists
 -- the bytes that were all fed, and are no certificate's text
 pub refused_all : (b bytes : List ℕ) (over : Bool) (n : ℕ) → b ≡ bytes → (IsTrue over ↔ ((c : Cert) × Parses b c)) → over ≡ false → IsRefusedLine b n → IsRefusedAt bytes n
 refused_all b bytes over n e h not_over line = subst (λ (t : List ℕ). IsRefusedAt t n) e (record { none = λ c p. absurd (both_ways over not_over (h.1 (c, p))); line = line })
+
+-- what is written is read as it was
+pub cert_of_text-text_of : (c : Cert) → IsWithinGrammar c → cert_of_text (text_of c) ≡ Ok c
+cert_of_text-text_of c h = cert_of_text-reading (text_of c) (Ok c) (record { within = h; text = refl })

@@ -70,11 +70,14 @@ impl Lines {
         ensures stands { (b : List ℕ) → StandsFor self.old b → StandsFor self.new (b ++ byte ∷ []) }
 
         // Bad exactly where no certificate's text begins so.
-        ensures bad { (b : List ℕ) → StandsFor self.old b → ((result ≡ LineStep.Bad) ↔ (BeginsText (b ++ byte ∷ []) → ⊥)) }
+        ensures bad { (b : List ℕ) → StandsFor self.old b →
+            ((result ≡ LineStep.Bad) ↔ ¬ (BeginsText (b ++ byte ∷ []))) }
 
         // For each certificate whose text begins so, a newline says what its line says.
-        ensures says { (b more : List ℕ) (c : Cert) → StandsFor self.old b → Parses (b ++ byte ∷ more) c →
-            result ≡ (if byte == 10 then slice_index_or (steps_of c) (newlines b) LineStep.More else LineStep.More) }
+        ensures says { (b more : List ℕ) (c : Cert) → StandsFor self.old b →
+            Parses (b ++ byte ∷ more) c → result ≡
+            (if byte == 10 then slice_index_or (steps_of c) (newlines b) LineStep.More
+            else LineStep.More) }
     {
         self.advance(byte)
     }

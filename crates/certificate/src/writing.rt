@@ -53,7 +53,8 @@ fn push_entry_line(out: &mut Vec<u8>, task: usize, entry: &Entry) -> Result<(), 
 }
 
 fn push_entry(out: &mut Vec<u8>, task: usize, entry: &Entry) -> Result<(), AllocError>
-    ensures { OnOk result (out.new.items ≡ out.old.items ++ (entry_line task entry.now ++ flat_map point_text entry.now.points)) }
+    ensures { OnOk result (out.new.items ≡ out.old.items ++
+        (entry_line task entry.now ++ flat_map point_text entry.now.points)) }
 {
     push_entry_line(out, task, entry)?;
     push_points(out, entry.points.as_slice())

@@ -1,4 +1,4 @@
-use Rattle.std.specs.Prelude.{◌≡◌, ℕ, ◌+◌, ◌-◌, ◌<◌, ◌==◌, ◌||◌, Bool, not, cond, length}
+use Rattle.std.specs.Prelude.{◌≡◌, ℕ, ◌+◌, ◌-◌, ◌<◌, ◌==◌, ◌||◌, Bool, true, not, cond, length}
 use Rattle.lists.specs.Firsts.{all_below}
 use Rattle.curve.specs.CurveValue.{Curve}
 use Rattle.curve.specs.Curves.{alpha_of}
@@ -29,3 +29,8 @@ IsSame p sheet i a b = (o : ℕ) → o < length sheet.tasks → compared_of p sh
 -- the offset 0, and those at which a number differs from the one at the offset before
 unfoldable pub is_point : PolicyMeaning → SheetParts → ℕ → ℕ → Bool
 is_point p sheet i a = (a == 0) || not (same_at p sheet i (a - 1) a)
+
+-- a point greater than a
+pub record IsPointAfter (p : PolicyMeaning) (sheet : SheetParts) (i a n : ℕ) : Type 0 where
+  pub later : a < n
+  pub point : is_point p sheet i n ≡ true

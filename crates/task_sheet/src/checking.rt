@@ -47,7 +47,8 @@ fn all_printable(bytes: &[u8]) -> bool
     true
 }
 
-fn is_name(name: &str) -> bool
+/// Whether a task may have the name: 1 to 32 bytes, each printable and no space.
+pub fn is_name(name: &str) -> bool
     ensures { result ≡ is_name_of name.now }
 {
     1 <= name.len() && name.len() <= 32 && all_printable(name.as_bytes())
@@ -88,6 +89,7 @@ fn holds(test: bool, refusal: SheetRefusal) -> Result<(), SheetRefusal>
     if test { Ok(()) } else { Err(refusal) }
 }
 
+/// The first rule that what is promised of the processor breaks.
 pub fn check_supply(supply: &SupplySpec) -> Result<(), SheetRefusal>
     ensures { result ≡ supply_rule supply.now }
 {
@@ -143,7 +145,8 @@ fn check_segments(n: u32, cost: u64, segments: &[u64]) -> Result<(), SheetRefusa
     holds(sum_of(segments) == cost, SheetRefusal::Sum { task: n })
 }
 
-fn check_cut(n: u32, cost: u64, cut: &Cut) -> Result<(), SheetRefusal>
+/// The first rule that the preemption of task `n`, counted from 0, breaks at its cost.
+pub fn check_cut(n: u32, cost: u64, cut: &Cut) -> Result<(), SheetRefusal>
     ensures { result ≡ cut_rule n cost cut.now }
 {
     match cut {

@@ -1,0 +1,37 @@
+use Rattle.std.proofs.Common.{◌≡◌, ℕ, ◌+◌, ◌-◌, ◌<◌, ◌≤◌, true, length, ap, subst, inl, inr, arith}
+use Rattle.std.proofs.lemmas.Bool.{cases_lt}
+use Rattle.run_model.specs.Runs.{job_at, service_of, IsDone}
+use Rattle.busy_window.specs.Busy.{IsQuiet}
+use Rattle.busy_window.proofs.Quiet.{last_quiet}
+use Rattle.busy_window.proofs.Setting.{Setting, of_sheet}
+use Rattle.abstract_rta.specs.Meeting.{IsWindow, MeetsAt}
+use Rattle.abstract_rta.proofs.Classes.{of_class, class_short}
+use Rattle.abstract_rta.proofs.Targets.{urgent, in_time}
+
+module _ (g : Setting) (i window bound : ℕ) (in_range : i < length g.sheet.tasks) (enough : IsWindow g.p g.m g.sbf g.sheet i window) where
+  -- a tick that is quiet for the class of i is quiet for the jobs as urgent as a job of i
+  class_quiet : (j t : ℕ) → j < length g.run.jobs → (job_at g.run j).task ≡ i → IsQuiet g.run (of_class g i) t → IsQuiet g.run (urgent g j) t
+  unfolding of_class urgent
+  class_quiet j t listed is_i quiet k b u = quiet k b (subst (λ w. g.p.class g.sheet w (job_at g.run k).task ≡ true) is_i (g.lawful.higher_class (job_at g.run k) (job_at g.run j) (of_sheet g k b) (of_sheet g j listed) u))
+
+  pub done_in_time : (ends : ℕ → ℕ) → ((a : ℕ) → a < window → MeetsAt g.p g.m g.sbf g.sheet i bound a (ends a)) → (j : ℕ) → j < length g.run.jobs → (job_at g.run j).task ≡ i → (job_at g.run j).arrival + bound ≤ length g.run.ticks →
+      IsDone g.run j ((job_at g.run j).arrival + bound)
+  done_in_time ends meets j listed is_i long = elim (cases_lt (service_of g.run j ((job_at g.run j).arrival + bound)) (job_at g.run j).cost) [
+    | inr done ↦ done
+    | inl less ↦
+        let arrival = (job_at g.run j).arrival in
+        let last = last_quiet g.run (urgent g j) arrival in
+        let of_i = last_quiet g.run (of_class g i) arrival in
+        let short : arrival < of_i.0 + window = class_short g i in_range window of_i.0 arrival enough of_i.1 (omega arith) of_i.2 of_i.3 in
+        let since : of_i.0 ≤ last.0 = elim (cases_lt last.0 of_i.0) [
+          | inr after ↦ after
+          | inl before ↦
+              let late = last.3 of_i.0 before of_i.1 in
+              absurd (omega (arith, class_quiet j of_i.0 listed is_i of_i.2 late.job late.listed late.inside late.earlier, late.not_done))
+        ] in
+        let a = arrival - last.0 in
+        let meet : MeetsAt g.p g.m g.sbf g.sheet i bound a (ends a) = meets a (omega (arith, short, since, last.1, enough.positive)) in
+        let e : last.0 + (a + bound) ≡ arrival + bound = omega (arith, last.1) in
+        absurd (in_time g i j last.0 a (ends a) (record { in_range = in_range; listed = listed; is_i = is_i; arrives = omega (arith, last.1) }) bound
+        meet.end meet.within (omega (arith, e, long)) last.2 (λ v b c. last.3 v b (omega (arith, last.1))) (omega (arith, less, ap (service_of g.run j) e)))
+  ]

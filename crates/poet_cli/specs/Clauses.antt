@@ -1,0 +1,84 @@
+use Rattle.std.specs.Prelude.{◌≡◌, ◌≢◌, ◌≤◌, ◌⊎◌, ℕ, List, Option, Result, Ok, Err, IsOk}
+use Rattle.poet_io.specs.Faults.{Rose}
+use Rattle.poet_io.specs.Shelves.{Files, IfTold, IsTold}
+use Rattle.poet_io.specs.Sinks.{Appended, AppendedPart, Stayed, WroteLine}
+use Rattle.poet_cli.specs.declared.refusal.Source.{Source}
+use Rattle.poet_cli.specs.declared.refusal.Refusal.{Refusal}
+use Rattle.poet_cli.specs.declared.refusal.Refusal.TheVariants.{Usage, Read, Memory}
+use Rattle.poet_cli.specs.Refusals.{refusal_status, line_of, write_failed}
+use Rattle.poet_cli.specs.Endings.{Output, Ending, output_status, output_text, ending_status, out_text, err_text}
+
+-- the two sinks at a moment
+pub record Outlets : Type 0 where
+  pub out : Option (List ℕ)
+  pub out_faults : ℕ
+  pub err : Option (List ℕ)
+  pub err_faults : ℕ
+
+-- the outside at a moment
+pub record Scene : Type 0 where
+  pub files : Option Files
+  pub faults : ℕ
+  pub sinks : Outlets
+
+-- the text was written
+pub record ToldText (output : Output) (before after : Outlets) (status : ℕ) : Type 0 where
+  pub status_is : status ≡ output_status output
+  pub text_is : Appended before.out after.out (output_text output)
+  pub silent : Stayed before.err after.err
+
+-- the text could not be written
+pub record ToldFault (output : Output) (before after : Outlets) (status : ℕ) : Type 0 where
+  pub status_is : status ≡ 4
+  pub cause : Rose before.out_faults after.out_faults
+  pub part : AppendedPart before.out after.out (output_text output)
+  pub line : WroteLine before.err after.err before.err_faults after.err_faults write_failed
+
+-- the line of a refusal was written
+pub record ToldLine (refusal : Refusal) (before after : Outlets) (status : ℕ) : Type 0 where
+  pub status_is : status ≡ refusal_status refusal
+  pub silent : Stayed before.out after.out
+  pub line_is : WroteLine before.err after.err before.err_faults after.err_faults (line_of refusal)
+
+-- how an ending was told
+abbrev pub Told : Ending → Outlets → Outlets → ℕ → Type 0
+Told (Ok output) before after status = ToldText output before after status ⊎ ToldFault output before after status
+Told (Err refusal) before after status = ToldLine refusal before after status
+
+-- the line for a file that could not be read
+pub record IsReadLine (answer : Files → Ending) (may : Refusal → Type 0) (before after : Scene) (line : List ℕ) : Type 0 where
+  pub source : Source
+  pub line_is : line ≡ line_of (Read source)
+  pub may_fail : may (Read source)
+  pub no_fault : ¬ Rose before.faults after.faults → IfTold before.files (λ files. line ≡ err_text (answer files))
+
+-- which line was written to err for a status from 2 on, whole where the faults of err did not rise
+pub record SaysWhy (answer : Files → Ending) (may : Refusal → Type 0) (before after : Scene) (status : ℕ) : Type 0 where
+  pub line : List ℕ
+  pub one_line : WroteLine before.sinks.err after.sinks.err before.sinks.err_faults after.sinks.err_faults line
+  pub usage_line : status ≡ 2 → line ≡ line_of Usage
+  pub read_line : status ≡ 3 → IsReadLine answer may before after line
+  pub write_line : status ≡ 4 → line ≡ write_failed
+  pub refusal_line : 5 ≤ status → status ≤ 7 → IfTold before.files (λ files. line ≡ err_text (answer files))
+  pub memory_line : status ≡ 8 → line ≡ line_of Memory
+
+-- what a call tells whose answer is this function of the files, and that may be refused so
+pub record Answers (answer : Files → Ending) (may : Refusal → Type 0) (before after : Scene) (status : ℕ) : Type 0 where
+  -- the answer is the defined one, but for faults and want of memory
+  pub answer_is : status ≢ 3 → status ≢ 4 → status ≢ 8 → IfTold before.files (λ files.
+      (status ≡ ending_status (answer files)) × Appended before.sinks.out after.sinks.out (out_text (answer files)))
+  -- a failed read has its cause
+  pub read_cause : status ≡ 3 → Rose before.faults after.faults ⊎ IsTold before.files (λ files. ending_status (answer files) ≡ 3)
+  -- a failed write has its cause, and leaves a prefix of the text
+  pub write_cause : status ≡ 4 → Rose before.sinks.out_faults after.sinks.out_faults
+  pub write_part : status ≡ 4 → IfTold before.files (λ files.
+      IsOk (answer files) × AppendedPart before.sinks.out after.sinks.out (out_text (answer files)))
+  -- what is silent
+  pub silent_out : 2 ≤ status → status ≢ 4 → Stayed before.sinks.out after.sinks.out
+  pub silent_err : status ≤ 1 → Stayed before.sinks.err after.sinks.err
+  pub few : status ≤ 8
+  -- which line
+  pub says_why : 2 ≤ status → SaysWhy answer may before after status
+  -- with no fault counted the answer is the defined one, or memory
+  pub complete : ¬ Rose before.faults after.faults → ¬ Rose before.sinks.out_faults after.sinks.out_faults → IfTold before.files (λ files.
+      (status ≡ 8) ⊎ ((status ≡ ending_status (answer files)) × Appended before.sinks.out after.sinks.out (out_text (answer files))))

@@ -1,0 +1,5 @@
+pub mod Words
+pub mod Refusals
+pub mod Endings
+pub mod Steps
+pub mod Clauses

@@ -1,0 +1,64 @@
+//! Why nothing was judged.
+ghost use Rattle.std.specs.Prelude.{◌≡◌};
+ghost use Rattle.poet_cli.specs.Refusals.{refusal_status, source_word, limit_of};
+
+use task_sheet::SheetRefusal;
+
+/// Which file.
+#[derive(Clone, Copy, Debug, PartialEq, Eq)]
+pub enum Source {
+    Sheet,
+    Certificate,
+}
+
+impl Source {
+    /// Its word in the lines of refusals.
+    pub fn word(self) -> &'static str
+        ensures { result.now ≡ source_word self }
+    {
+        match self {
+            Source::Sheet => "sheet",
+            Source::Certificate => "certificate",
+        }
+    }
+
+    /// The longest file of the kind, in bytes.
+    pub fn limit(self) -> usize
+        ensures { result ≡ limit_of self }
+    {
+        match self {
+            Source::Sheet => 1_048_576,
+            Source::Certificate => 67_108_864,
+        }
+    }
+}
+
+/// Why a command was refused. Each has a status and a line of its own.
+#[derive(Clone, Copy, Debug, PartialEq, Eq)]
+pub enum Refusal {
+    /// The words are not in the grammar.
+    Usage,
+    /// A file could not be read.
+    Read(Source),
+    Sheet(SheetRefusal),
+    /// A text is not of its format, from this line on.
+    Text { source: Source, line: u64 },
+    /// A file is longer than its limit.
+    Limit(Source),
+    Memory,
+}
+
+impl Refusal {
+    pub fn status(&self) -> u8
+        ensures { result ≡ refusal_status self.now }
+    {
+        match self {
+            Refusal::Usage => 2,
+            Refusal::Read(_) => 3,
+            Refusal::Sheet(_) => 5,
+            Refusal::Text { .. } => 6,
+            Refusal::Limit(_) => 7,
+            Refusal::Memory => 8,
+        }
+    }
+}

@@ -1,0 +1,179 @@
+//! The lines of refusals, and how an ending becomes text and a status.
+ghost use Rattle.std.specs.Prelude.{◌≡◌, ◌++◌, ◌≤◌, ℕ, Ok, Err, OnOk, OnErr, Result, take, codes, decimal};
+ghost use Rattle.poet_io.specs.Sinks.{Wrote, Appended, WroteLine};
+ghost use Rattle.poet_cli.specs.Refusals.{field_word as field_word_of, place_text, line_at, sheet_line, line_of, write_failed};
+ghost use Rattle.poet_cli.specs.Clauses.{Told, ToldLine, Outlets};
+
+use crate::refusal::{Refusal, Source};
+use poet_io::{Sink, SinkFault, put_number, write_all, write_parts};
+use task_sheet::{Field, Place, SheetRefusal};
+
+const USAGE: &str =
+    "usage: poet check SHEET CERT [deadlines] | analyse SHEET HORIZON | simulate SHEET dense N | simulate SHEET seed S N | audit SHEET RUN | report SHEET CERT text|json | exercise S N\n";
+
+#[tactic(auto, unfolding(crate::specs::Refusals::field_word))]
+fn field_word(field: Field) -> &'static str
+    ensures { result.now ≡ field_word_of field }
+{
+    match field {
+        Field::Policy => "policy",
+        Field::Supply => "supply",
+        Field::Task => "task",
+        Field::Horizon => "horizon",
+        Field::Times => "times",
+        Field::Name => "name",
+        Field::Cost => "cost",
+        Field::Deadline => "deadline",
+        Field::Priority => "priority",
+        Field::Period => "period",
+        Field::Curve => "curve",
+        Field::CurveHorizon => "curve.horizon",
+        Field::CurveSteps => "curve.steps",
+        Field::Preemption => "preemption",
+    }
+}
+
+fn put_place(place: Place, digits: &mut [u8; 20]) -> (&'static str, usize)
+    ensures text { place_text place ≡ result.0.now ++ take result.1 digits.new }
+    ensures short { result.1 ≤ 20 }
+{
+    match place {
+        Place::Top => ("top", 0),
+        Place::Supply => ("supply", 0),
+        Place::Task(n) => ("task ", put_number(u64::from(n), digits)),
+    }
+}
+
+/// Six pieces of one lifetime.
+fn write_six<'a, O: Sink>(
+    out: &mut O,
+    first: &'a [u8],
+    second: &'a [u8],
+    third: &'a [u8],
+    fourth: &'a [u8],
+    fifth: &'a [u8],
+    sixth: &'a [u8],
+) -> Result<(), SinkFault>
+    ensures { Wrote (O.written out.old) (O.written out.new) (O.faults out.old) (O.faults out.new) (first.now ++ (second.now ++ (third.now ++ (fourth.now ++ (fifth.now ++ sixth.now))))) result }
+{
+    write_parts(out, &[first, second, third, fourth, fifth, sixth])
+}
+
+/// Three pieces, a place and the line's end.
+#[tactic(auto, unfolding(crate::specs::Refusals::line_at))]
+fn write_at<E: Sink>(
+    err: &mut E,
+    first: &str,
+    second: &str,
+    third: &str,
+    place: Place,
+) -> Result<(), SinkFault>
+    ensures { Wrote (E.written err.old) (E.written err.new) (E.faults err.old) (E.faults err.new) (line_at first.now second.now third.now place) result }
+{
+    let mut digits = [0; 20];
+    let (word, len) = put_place(place, &mut digits);
+    write_six(
+        err,
+        first.as_bytes(),
+        second.as_bytes(),
+        third.as_bytes(),
+        word.as_bytes(),
+        &digits[..len],
+        "\n".as_bytes(),
+    )
+}
+
+fn write_sheet_refusal<E: Sink>(refusal: SheetRefusal, err: &mut E) -> Result<(), SinkFault>
+    ensures { Wrote (E.written err.old) (E.written err.new) (E.faults err.old) (E.faults err.new) (sheet_line refusal) result }
+{
+    match refusal {
+        SheetRefusal::Text => write_all(err, "sheet: not a TOML document\n".as_bytes()),
+        SheetRefusal::Unknown { place } => write_at(err, "sheet: unknown key in ", "", "", place),
+        SheetRefusal::Missing { place, field } => {
+            write_at(err, "sheet: missing ", field_word(field), " in ", place)
+        }
+        SheetRefusal::Kind { place, field } => {
+            write_at(
+                err,
+                "sheet: wrong kind of ",
+                field_word(field),
+                " in ",
+                place,
+            )
+        }
+        SheetRefusal::Range { place, field } => {
+            write_at(
+                err,
+                "sheet: ",
+                field_word(field),
+                " out of range in ",
+                place,
+            )
+        }
+        SheetRefusal::Order { place, field } => {
+            write_at(
+                err,
+                "sheet: ",
+                field_word(field),
+                " out of order in ",
+                place,
+            )
+        }
+        SheetRefusal::Both { task } => {
+            write_at(
+                err,
+                "sheet: both period and curve in ",
+                "",
+                "",
+                Place::Task(task),
+            )
+        }
+        SheetRefusal::Twice { task } => {
+            write_at(err, "sheet: name repeated in ", "", "", Place::Task(task))
+        }
+        SheetRefusal::Sum { task } => {
+            write_at(
+                err,
+                "sheet: preemption does not fit cost in ",
+                "",
+                "",
+                Place::Task(task),
+            )
+        }
+        SheetRefusal::Memory => write_all(err, "memory\n".as_bytes()),
+    }
+}
+
+/// Two pieces, a number and a third piece.
+fn write_number<E: Sink>(
+    err: &mut E,
+    first: &str,
+    second: &str,
+    n: u64,
+    third: &str,
+) -> Result<(), SinkFault>
+    ensures { Wrote (E.written err.old) (E.written err.new) (E.faults err.old) (E.faults err.new) (first.now ++ (second.now ++ (decimal n ++ third.now))) result }
+{
+    let mut digits = [0; 20];
+    let len = put_number(n, &mut digits);
+    write_four(
+        err,
+        first.as_bytes(),
+        second.as_bytes(),
+        &digits[..len],
+        third.as_bytes(),
+    )
+}
+
+/// Four pieces of one lifetime.
+fn write_four<'a, O: Sink>(
+    out: &mut O,
+    first: &'a [u8],
+    second: &'a [u8],
+    third: &'a [u8],
+    fourth: &'a [u8],
+) -> Result<(), SinkFault>
+    ensures { Wrote (O.written out.old) (O.written out.new) (O.faults out.old) (O.faults out.new) (first.now ++ (second.now ++ (third.now ++ fourth.now))) result }
+{
+    write_parts(out, &[first, second, third, fourth])
+}

@@ -1,0 +1,87 @@
+use Rattle.std.proofs.Common.{◌≡◌, ℕ, zero, suc, ◌+◌, ◌-◌, ◌<◌, ◌≤◌, ◌≢◌, ◌==◌, Bool, true, false, cond, length, refl, sym, ◌∙◌, ap, subst, inl, inr, arith, eq-eqb, not, ◌||◌}
+use Rattle.std.specs.Prelude.{ℤ, pos, negsuc, ◌≤ℤ◌}
+use Rattle.std.proofs.lemmas.Bool.{cases_lt, cases_eq, ne_eqb, eqb-true}
+use Rattle.std.proofs.lemmas.Int.{ints}
+use Rattle.lists.proofs.FirstFacts.{all_parts, all_from}
+use Rattle.curve.specs.CurveValue.{Curve}
+use Rattle.curve.specs.Validity.{IsCurve}
+use Rattle.curve.specs.Curves.{alpha_of}
+use Rattle.curve.proofs.CurveFacts.{alpha_mono}
+use Rattle.task_sheet.specs.SheetParts.{SheetParts}
+use Rattle.task_sheet.specs.Sheets.{task_at, IsValidSheet}
+use Rattle.policy.specs.declared.keys.Cap.{Cap}
+use Rattle.policy.specs.declared.keys.Cap.TheVariants.{Nothing, At, All}
+use Rattle.policy.specs.Keys.{not_below_zero}
+use Rattle.policy.specs.PolicyMeaning.{PolicyMeaning}
+use Rattle.policy.specs.PolicyLaws.{IsLawfulPolicy, GrowsTo}
+use Rattle.search_space.specs.Points.{cap_count, compared_of, same_at, IsSame, is_point}
+
+pub floor_mono : (c d : ℤ) → c ≤ℤ d → not_below_zero c ≤ not_below_zero d
+floor_mono (pos a) (pos b) h = omega (arith, ints)
+floor_mono (pos a) (negsuc b) h = absurd (omega (arith, ints))
+floor_mono (negsuc a) d h = omega arith
+
+-- a cap that grows admits no fewer
+pub count_grows : (curve : Curve) → IsCurve curve → (from to : Cap) → GrowsTo from to → cap_count curve from ≤ cap_count curve to
+count_grows curve ok Nothing Nothing h = omega arith
+count_grows curve ok Nothing (At d) h = absurd h
+count_grows curve ok Nothing All h = absurd h
+count_grows curve ok (At c) Nothing h = absurd h
+count_grows curve ok (At c) (At d) h = alpha_mono curve ok (not_below_zero c) (not_below_zero d) (floor_mono c d h)
+count_grows curve ok (At c) All h = absurd h
+count_grows curve ok All Nothing h = absurd h
+count_grows curve ok All (At d) h = absurd h
+count_grows curve ok All All h = omega arith
+
+-- the test and the fact
+pub same_means : (p : PolicyMeaning) (sheet : SheetParts) (i a b : ℕ) → same_at p sheet i a b ≡ true → IsSame p sheet i a b
+same_means p sheet i a b h o l = eqb-true _ _ (all_parts (λ o. compared_of p sheet i a o == compared_of p sheet i b o) (length sheet.tasks) o h l)
+
+pub same_true : (p : PolicyMeaning) (sheet : SheetParts) (i a b : ℕ) → IsSame p sheet i a b → same_at p sheet i a b ≡ true
+same_true p sheet i a b h = all_from (λ o. compared_of p sheet i a o == compared_of p sheet i b o) (length sheet.tasks) (λ o l. eq-eqb _ _ (h o l))
+
+not_point : (b : Bool) → not b ≡ false → b ≡ true
+not_point true h = refl
+not_point false h = cc
+
+or_parts : (a b : Bool) → (a || b) ≡ false → (a ≡ false) × (b ≡ false)
+or_parts true b h = cc
+or_parts false b h = (refl, h)
+
+-- an offset that is no point is the same as the one before
+pub same_before : (p : PolicyMeaning) (sheet : SheetParts) (i a : ℕ) → is_point p sheet i a ≡ false → IsSame p sheet i (a - 1) a
+unfolding is_point
+same_before p sheet i a h = same_means p sheet i (a - 1) a (not_point _ (or_parts _ _ h).1)
+
+pub same_along : (p : PolicyMeaning) (sheet : SheetParts) (i a n : ℕ) → ((k : ℕ) → a < k → k ≤ a + n → is_point p sheet i k ≡ false) → IsSame p sheet i a (a + n)
+same_along p sheet i a zero h =
+    let e : a ≡ a + 0 = omega arith in
+    subst (IsSame p sheet i a) e (λ o l. refl)
+same_along p sheet i a (suc n) h =
+    let e : suc (a + n) ≡ a + suc n = omega arith in
+    let d : suc (a + n) - 1 ≡ a + n = omega arith in
+    let before = same_along p sheet i a n (λ k m l. h k m (omega arith)) in
+    let step = subst (λ w. IsSame p sheet i w (suc (a + n))) d (same_before p sheet i (suc (a + n)) (h (suc (a + n)) (omega arith) (omega arith))) in
+    subst (IsSame p sheet i a) e (λ o l. before o l ∙ step o l)
+
+pub between : (p : PolicyMeaning) (sheet : SheetParts) (i a b : ℕ) → a ≤ b → ((n : ℕ) → a < n → n ≤ b → is_point p sheet i n ≡ false) → IsSame p sheet i a b
+between p sheet i a b h none =
+    let e : a + (b - a) ≡ b = omega arith in
+    subst (IsSame p sheet i a) e (same_along p sheet i a (b - a) (λ k l m. none k l (omega arith)))
+
+module _ (p : PolicyMeaning) (sheet : SheetParts) (ok : IsValidSheet sheet) (lawful : IsLawfulPolicy p sheet) (i : ℕ) (in_range : i < length sheet.tasks) where
+  own_number : (a : ℕ) → compared_of p sheet i a i ≡ alpha_of (task_at sheet i).curve (a + 1)
+  own_number a = ap (λ (b : Bool). cond b (alpha_of (task_at sheet i).curve (a + 1)) (cap_count (task_at sheet i).curve (p.cap sheet i i a))) (eq-eqb i i refl)
+
+  other_number : (a o : ℕ) → o ≢ i → compared_of p sheet i a o ≡ cap_count (task_at sheet o).curve (p.cap sheet i o a)
+  other_number a o ne = ap (λ (b : Bool). cond b (alpha_of (task_at sheet i).curve (a + 1)) (cap_count (task_at sheet o).curve (p.cap sheet i o a))) (ne_eqb o i ne)
+
+  -- the numbers never fall
+  pub compared_grows : (a b o : ℕ) → o < length sheet.tasks → a ≤ b → compared_of p sheet i a o ≤ compared_of p sheet i b o
+  compared_grows a b o l h = elim (cases_eq o i) [
+    | inl e ↦ subst (λ w. compared_of p sheet i a w ≤ compared_of p sheet i b w) (sym e) (omega (arith, own_number a, own_number b, alpha_mono (task_at sheet i).curve (ok.each i in_range).curve (a + 1) (b + 1) (omega arith)))
+    | inr ne ↦ omega (arith, other_number a o ne, other_number b o ne, count_grows (task_at sheet o).curve (ok.each o l).curve (p.cap sheet i o a) (p.cap sheet i o b) (lawful.cap_grows i o a b in_range l (λ e. ne (sym e)) h))
+  ]
+
+  pub across : (from at to : ℕ) → from ≤ at → at < to → IsSame p sheet i from (to - 1) → IsSame p sheet i from at
+  across from at to h l same o b = omega (arith, compared_grows from at o b h, compared_grows at (to - 1) o b (omega arith), same o b)

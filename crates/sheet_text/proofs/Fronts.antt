@@ -1,0 +1,6 @@
+use Rattle.std.proofs.Common.{List, ◌++◌, Option, Some, None}
+
+-- what was read before, and what is still to be read
+abbrev pub with_front : {X : Type 0} → List X → Option (List X) → Option (List X)
+with_front front None = None
+with_front front (Some xs) = Some (front ++ xs)

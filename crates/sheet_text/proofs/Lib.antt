@@ -1,0 +1,5 @@
+pub mod Fronts
+pub mod Counts
+pub mod StepFacts
+pub mod Loop
+pub mod WorkedRows

@@ -1,0 +1,7 @@
+pub mod Readings
+pub mod Documents
+pub mod SupplyRows
+pub mod CurveRows
+pub mod CutRows
+pub mod TaskRows
+pub mod SheetRows

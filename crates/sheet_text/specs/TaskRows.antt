@@ -1,0 +1,58 @@
+use Rattle.std.specs.Prelude.{ℕ, not, List, [], ◌∷◌, ◌++◌, map, length, codes, Option, Some, None, Result, Ok, Err, bytes_eq}
+use Rattle.std.specs.List.{list_any}
+use Rattle.toml.specs.Data.{Data, string, Items, no_items, item, get}
+use Rattle.task_sheet.specs.declared.tasks.PolicyKind.{PolicyKind}
+use Rattle.task_sheet.specs.declared.tasks.PolicyKind.TheVariants.{Fp, Edf, Fifo}
+use Rattle.task_sheet.specs.declared.tasks.Task.{Task}
+use Rattle.task_sheet.specs.declared.refusal.Place.{Place}
+use Rattle.task_sheet.specs.declared.refusal.Place.TheVariants as places
+use Rattle.task_sheet.specs.declared.refusal.Field.TheVariants as fields
+use Rattle.task_sheet.specs.declared.refusal.SheetRefusal.{SheetRefusal}
+use Rattle.task_sheet.specs.declared.refusal.SheetRefusal.TheVariants.{Missing, Kind, Range, Twice}
+use Rattle.task_sheet.specs.Refusing.{◌>>=◌, holds}
+use Rattle.task_sheet.specs.Rules.{is_name}
+use Rattle.sheet_text.specs.Documents.{keys_rule, needed_rule, whole_rule, positive_rule}
+use Rattle.sheet_text.specs.CurveRows.{arrivals_rule}
+use Rattle.sheet_text.specs.CutRows.{preemption_rule}
+
+abbrev pub task_keys : List (List ℕ)
+task_keys = codes "name" ∷ codes "cost" ∷ codes "deadline" ∷ codes "priority" ∷ codes "period" ∷ codes "curve" ∷ codes "preemption" ∷ []
+
+-- a name that no task before has
+unfoldable pub name_rule : ℕ → List (List ℕ) → Data → Result (List ℕ) SheetRefusal
+name_rule n names (string s) =
+    holds (is_name s) (Range (places.Task n) fields.Name)
+    >>= (λ _. holds (not (list_any (bytes_eq s) names)) (Twice n)
+    >>= (λ _. Ok s))
+name_rule n names _ = Err (Kind (places.Task n) fields.Name)
+
+-- only under fixed priorities has a task to say its priority
+abbrev pub unsaid_priority : PolicyKind → Place → Result ℕ SheetRefusal
+unsaid_priority Fp place = Err (Missing place fields.Priority)
+unsaid_priority Edf place = Ok 0
+unsaid_priority Fifo place = Ok 0
+
+abbrev pub priority_rule : PolicyKind → Place → Option Data → Result ℕ SheetRefusal
+priority_rule policy place (Some d) = whole_rule place fields.Priority 0 1000000000 d
+priority_rule policy place None = unsaid_priority policy place
+
+-- task n, after tasks of these names
+unfoldable pub task_of : PolicyKind → ℕ → List (List ℕ) → Data → Result Task SheetRefusal
+task_of policy n names d = do
+  known ← keys_rule task_keys (places.Task n) d
+  named ← needed_rule (codes "name") (places.Task n) fields.Name d
+  its_name ← name_rule n names named
+  its_cost ← positive_rule (codes "cost") (places.Task n) fields.Cost d
+  its_deadline ← positive_rule (codes "deadline") (places.Task n) fields.Deadline d
+  its_priority ← priority_rule policy (places.Task n) (get (codes "priority") d)
+  its_curve ← arrivals_rule n (get (codes "period") d) (get (codes "curve") d)
+  its_cut ← preemption_rule n its_cost (get (codes "preemption") d)
+  Ok (record { name = its_name; cost = its_cost; deadline = its_deadline; priority = its_priority; curve = its_curve; cut = its_cut })
+
+abbrev pub names_of : List Task → List (List ℕ)
+names_of tasks = map (λ t. t.name) tasks
+
+-- the tasks of these items, after those that are done
+unfoldable pub tasks_after : PolicyKind → List Task → Items → Result (List Task) SheetRefusal
+tasks_after policy done no_items = Ok done
+tasks_after policy done (item d ds) = task_of policy (length done) (names_of done) d >>= (λ t. tasks_after policy (done ++ t ∷ []) ds)

@@ -1,0 +1,165 @@
+//! The tasks of a document.
+ghost use Rattle.std.specs.Prelude.{◌≡◌, ◌≤◌, ◌<◌, ◌∷◌, ◌++◌, [], ℕ, true, false, map, length, string_bytes, bytes_eq, codes, Ok, IfOk, slice_index_or};
+ghost use Rattle.std.specs.List.{list_any};
+ghost use Rattle.toml.specs.Data.{string, get};
+ghost use Rattle.toml.specs.View.{view, items_view};
+ghost use Rattle.curve.specs.Validity.{IsCurve};
+ghost use Rattle.lists.specs.Ranges.{is_between};
+ghost use Rattle.task_sheet.specs.Rules.{is_name as is_name_of, task_rule, tasks_rule};
+ghost use Rattle.task_sheet.specs.Sheets.{no_task};
+ghost use Rattle.sheet_text.specs.Readings.{Gives};
+ghost use Rattle.sheet_text.specs.Documents.{whole_rule};
+ghost use Rattle.sheet_text.specs.TaskRows.{name_rule, unsaid_priority as unsaid_of, priority_rule, task_of as task_of_value, tasks_after};
+
+use crate::arrivals::arrivals;
+use crate::cuts::preemption;
+use crate::document::{check_keys, needed};
+use crate::numbers::{GREATEST, positive, whole};
+use indexmap::IndexSet;
+use lists::Text;
+use std::alloc::Global;
+use task_sheet::{Field, Place, PolicyKind, SheetRefusal, Task, is_name};
+use toml::Value;
+
+const TASK_KEYS: [&str; 7] = [
+    "name",
+    "cost",
+    "deadline",
+    "priority",
+    "period",
+    "curve",
+    "preemption",
+];
+
+/// A name for task `n` that is not among these, and is put there.
+#[tactic(auto, unfolding(crate::specs::TaskRows::name_rule))]
+fn new_name<'a>(
+    alloc: Global,
+    name: &'a str,
+    n: u32,
+    names: &mut IndexSet<String>,
+) -> Result<&'a str, SheetRefusal>
+    ensures gives { Gives (λ s. s.now) result (name_rule n (map string_bytes names.old.keys) (string name.now)) }
+    ensures kept { IfOk result (λ s. map string_bytes names.new.keys ≡ map string_bytes names.old.keys ++ s.now ∷ []) }
+    ensures plain { IfOk result (λ s. is_name_of s.now ≡ true) }
+    ensures fresh { IfOk result (λ s. list_any (bytes_eq s.now) (map string_bytes names.old.keys) ≡ false) }
+{
+    if !is_name(name) {
+        return Err(SheetRefusal::Range {
+            place: Place::Task(n),
+            field: Field::Name,
+        });
+    }
+    if names.insert(String::from_str(alloc, name)?)? {
+        Ok(name)
+    } else {
+        Err(SheetRefusal::Twice { task: n })
+    }
+}
+
+#[tactic(auto, unfolding(crate::specs::TaskRows::name_rule))]
+fn name_of<'a>(
+    alloc: Global,
+    value: &'a Value,
+    n: u32,
+    names: &mut IndexSet<String>,
+) -> Result<&'a str, SheetRefusal>
+    ensures gives { Gives (λ s. s.now) result (name_rule n (map string_bytes names.old.keys) (view value.now)) }
+    ensures kept { IfOk result (λ s. map string_bytes names.new.keys ≡ map string_bytes names.old.keys ++ s.now ∷ []) }
+    ensures plain { IfOk result (λ s. is_name_of s.now ≡ true) }
+    ensures fresh { IfOk result (λ s. list_any (bytes_eq s.now) (map string_bytes names.old.keys) ≡ false) }
+{
+    match value {
+        Value::String(name) => new_name(alloc, name.as_str(), n, names),
+        _ => Err(SheetRefusal::Kind {
+            place: Place::Task(n),
+            field: Field::Name,
+        }),
+    }
+}
+
+/// The priority of a task that says none.
+fn unsaid_priority(policy: PolicyKind, place: Place) -> Result<u64, SheetRefusal>
+    ensures gives { result ≡ unsaid_of policy place }
+    ensures within { IfOk result (λ n. n ≤ 1000000000) }
+{
+    match policy {
+        PolicyKind::Fp => Err(SheetRefusal::Missing {
+            place,
+            field: Field::Priority,
+        }),
+        PolicyKind::Edf | PolicyKind::Fifo => Ok(0),
+    }
+}
+
+fn said_priority(place: Place, value: &Value) -> Result<u64, SheetRefusal>
+    ensures gives { result ≡ whole_rule place Field.Priority 0 1000000000 (view value.now) }
+    ensures within { IfOk result (λ n. n ≤ 1000000000) }
+{
+    whole(value, place, Field::Priority, 0, GREATEST)
+}
+
+fn priority_of(policy: PolicyKind, place: Place, task: &Value) -> Result<u64, SheetRefusal>
+    ensures gives { result ≡ priority_rule policy place (get (codes "priority") (view task.now)) }
+    ensures within { IfOk result (λ n. n ≤ 1000000000) }
+{
+    match task.get("priority") {
+        Some(priority) => said_priority(place, priority),
+        None => unsaid_priority(policy, place),
+    }
+}
+
+/// Task `n`, after tasks of these names.
+#[tactic(auto, unfolding(crate::specs::TaskRows::task_of))]
+fn task_of(
+    alloc: Global,
+    policy: PolicyKind,
+    n: u32,
+    names: &mut IndexSet<String>,
+    value: &Value,
+) -> Result<Task, SheetRefusal>
+    ensures gives { Gives (λ t. t) result (task_of_value policy n (map string_bytes names.old.keys) (view value.now)) }
+    ensures kept { IfOk result (λ t. map string_bytes names.new.keys ≡ map string_bytes names.old.keys ++ t.name ∷ []) }
+    ensures rule { IfOk result (λ t. task_rule n (map string_bytes names.old.keys) t ≡ Ok tt) }
+    ensures curve { IfOk result (λ t. IsCurve t.curve) }
+{
+    let place = Place::Task(n);
+    check_keys(value, &TASK_KEYS, place)?;
+    let name = name_of(alloc, needed(value, "name", place, Field::Name)?, n, names)?;
+    let cost = positive(value, "cost", place, Field::Cost)?;
+    let deadline = positive(value, "deadline", place, Field::Deadline)?;
+    let priority = priority_of(policy, place, value)?;
+    let curve = arrivals(alloc, n, value)?;
+    let cut = preemption(alloc, n, cost, value)?;
+    Ok(Task {
+        name: Text::new(String::from_str(alloc, name)?),
+        cost,
+        deadline,
+        priority,
+        curve,
+        cut,
+    })
+}
+
+/// The tasks of at most 256 items.
+#[tactic(auto, unfolding(crate::specs::TaskRows::tasks_after))]
+pub fn tasks_of(
+    alloc: Global,
+    policy: PolicyKind,
+    items: &[Value],
+) -> Result<Vec<Task>, SheetRefusal>
+    requires { length items.now ≤ 256 }
+    ensures gives { Gives (λ v. v.items) result (tasks_after policy [] (items_view items.now)) }
+    ensures rules { IfOk result (λ v. tasks_rule 0 [] v.items ≡ Ok tt) }
+    ensures curves { IfOk result (λ v. (i : ℕ) → i < length v.items → IsCurve (slice_index_or v.items i no_task).curve) }
+    ensures many { IfOk result (λ v. length v.items ≡ length items.now) }
+{
+    let mut tasks = Vec::new(alloc);
+    let mut names = IndexSet::new(alloc);
+    'items: for item in items {
+        let n = tasks.len() as u32;
+        let task = task_of(alloc, policy, n, &mut names, item)?;
+        tasks.push(task)?;
+    }
+    Ok(tasks)
+}

@@ -40,6 +40,11 @@ pub record ToldLine (refusal : Refusal) (before after : Outlets) (status : ℕ) 
   pub silent : Stayed before.out after.out
   pub line_is : WroteLine before.err after.err before.err_faults after.err_faults (line_of refusal)
 
+-- how the writing of a text ended: with its status and nothing on err, or with status 4 and its line
+abbrev pub Finished : {E : Type 0} → Result (Unit {0}) E → ℕ → Option (List ℕ) → Option (List ℕ) → ℕ → ℕ → ℕ → Type 0
+Finished (Ok done) status before after faults_before faults_now answer = (answer ≡ status) × Stayed before after
+Finished (Err fault) status before after faults_before faults_now answer = (answer ≡ 4) × WroteLine before after faults_before faults_now write_failed
+
 -- how an ending was told
 abbrev pub Told : Ending → Outlets → Outlets → ℕ → Type 0
 Told (Ok output) before after status = ToldText output before after status ⊎ ToldFault output before after status

@@ -3,3 +3,4 @@ pub mod Refusals
 pub mod Endings
 pub mod Steps
 pub mod Clauses
+pub mod Answers

@@ -57,6 +57,9 @@ abbrev pub limit_of : Source → ℕ
 limit_of source.Sheet = 1048576
 limit_of source.Certificate = 67108864
 
+abbrev pub limit_line : Source → List ℕ
+limit_line which = codes "limit: " ++ (source_word which ++ (codes " is longer than " ++ (decimal (limit_of which) ++ codes " bytes\n")))
+
 -- the line of statuses 2, 3 and 5 to 8
 unfoldable pub line_of : Refusal → List ℕ
 line_of Usage =
@@ -64,7 +67,7 @@ line_of Usage =
 line_of (Read which) = codes "read failed: " ++ (source_word which ++ codes "\n")
 line_of (Sheet refusal) = sheet_line refusal
 line_of (Text which line) = source_word which ++ (codes ": line " ++ (decimal line ++ codes " is not of the format\n"))
-line_of (Limit which) = codes "limit: " ++ (source_word which ++ (codes " is longer than " ++ (decimal (limit_of which) ++ codes " bytes\n")))
+line_of (Limit which) = limit_line which
 line_of Memory = codes "memory\n"
 
 -- the line of status 4

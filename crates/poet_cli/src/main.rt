@@ -1,6 +1,7 @@
 //! `poet`: judges bounds on the response times of real-time tasks.
 #![tactic(auto)]
 
+mod reading;
 mod refusal;
 mod telling;
 mod words;

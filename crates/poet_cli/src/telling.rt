@@ -1,8 +1,8 @@
 //! The lines of refusals, and how an ending becomes text and a status.
 ghost use Rattle.std.specs.Prelude.{◌≡◌, ◌++◌, ◌≤◌, ℕ, Ok, Err, OnOk, OnErr, Result, take, codes, decimal};
 ghost use Rattle.poet_io.specs.Sinks.{Wrote, Appended, WroteLine};
-ghost use Rattle.poet_cli.specs.Refusals.{field_word as field_word_of, place_text, line_at, sheet_line, line_of, write_failed};
-ghost use Rattle.poet_cli.specs.Clauses.{Told, ToldLine, Outlets};
+ghost use Rattle.poet_cli.specs.Refusals.{field_word as field_word_of, place_text, line_at, sheet_line, limit_line, line_of, write_failed, refusal_status};
+ghost use Rattle.poet_cli.specs.Clauses.{Finished};
 
 use crate::refusal::{Refusal, Source};
 use poet_io::{Sink, SinkFault, put_number, write_all, write_parts};
@@ -165,6 +165,22 @@ fn write_number<E: Sink>(
     )
 }
 
+fn write_limit<E: Sink>(source: Source, err: &mut E) -> Result<(), SinkFault>
+    ensures { Wrote (E.written err.old) (E.written err.new) (E.faults err.old) (E.faults err.new) (limit_line source) result }
+{
+    let mut digits = [0; 20];
+    let len = put_number(source.limit() as u64, &mut digits);
+    write_six(
+        err,
+        "limit: ".as_bytes(),
+        source.word().as_bytes(),
+        " is longer than ".as_bytes(),
+        &digits[..len],
+        " bytes\n".as_bytes(),
+        "".as_bytes(),
+    )
+}
+
 /// Four pieces of one lifetime.
 fn write_four<'a, O: Sink>(
     out: &mut O,
@@ -176,4 +192,55 @@ fn write_four<'a, O: Sink>(
     ensures { Wrote (O.written out.old) (O.written out.new) (O.faults out.old) (O.faults out.new) (first.now ++ (second.now ++ (third.now ++ fourth.now))) result }
 {
     write_parts(out, &[first, second, third, fourth])
+}
+
+/// The line of a refusal.
+#[tactic(auto, unfolding(crate::specs::Refusals::line_of))]
+fn write_refusal<E: Sink>(refusal: &Refusal, err: &mut E) -> Result<(), SinkFault>
+    ensures { Wrote (E.written err.old) (E.written err.new) (E.faults err.old) (E.faults err.new) (line_of refusal.now) result }
+{
+    match refusal {
+        Refusal::Usage => write_all(err, USAGE.as_bytes()),
+        Refusal::Read(source) => write_four(
+            err,
+            "read failed: ".as_bytes(),
+            source.word().as_bytes(),
+            "\n".as_bytes(),
+            "".as_bytes(),
+        ),
+        Refusal::Sheet(refusal) => write_sheet_refusal(*refusal, err),
+        Refusal::Text { source, line } => write_number(
+            err,
+            source.word(),
+            ": line ",
+            *line,
+            " is not of the format\n",
+        ),
+        Refusal::Limit(source) => write_limit(*source, err),
+        Refusal::Memory => write_all(err, "memory\n".as_bytes()),
+    }
+}
+
+/// Tells a refusal, and answers its status.
+#[tactic(auto, using(poet_io::proofs::Telling::wrote_line))]
+pub fn tell_refusal<E: Sink>(refusal: &Refusal, err: &mut E) -> u8
+    ensures status { result ≡ refusal_status refusal.now }
+    ensures line { WroteLine (E.written err.old) (E.written err.new) (E.faults err.old) (E.faults err.new) (line_of refusal.now) }
+{
+    let _ = write_refusal(refusal, err);
+    refusal.status()
+}
+
+/// The status of a text that was written, or else 4 and its line.
+#[tactic(auto, using(poet_io::proofs::Telling::wrote_line, poet_io::proofs::Writing::stayed_same), unfolding(crate::specs::Refusals::write_failed))]
+pub fn finish<E: Sink>(written: Result<(), SinkFault>, status: u8, err: &mut E) -> u8
+    ensures { Finished written status (E.written err.old) (E.written err.new) (E.faults err.old) (E.faults err.new) result }
+{
+    match written {
+        Ok(()) => status,
+        Err(_) => {
+            let _ = write_all(err, "write failed\n".as_bytes());
+            4
+        }
+    }
 }

@@ -3,3 +3,5 @@ pub mod Counts
 pub mod StepFacts
 pub mod Loop
 pub mod WorkedRows
+pub mod PrintedFacts
+pub mod ReadsBack

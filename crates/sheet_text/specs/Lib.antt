@@ -5,3 +5,4 @@ pub mod CurveRows
 pub mod CutRows
 pub mod TaskRows
 pub mod SheetRows
+pub mod Printed

@@ -5,8 +5,10 @@ mod arrivals;
 mod cuts;
 mod document;
 mod numbers;
+mod printing;
 mod promises;
 mod reading;
 mod tasks;
 
+pub use printing::print_sheet;
 pub use reading::read_sheet;

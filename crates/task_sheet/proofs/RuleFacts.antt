@@ -56,7 +56,7 @@ cut_means n cost (Floating longest) h =
     let parts = both_hold _ _ _ h in
     (positive_low longest (holds_means _ _ parts.0), leb-true longest cost (holds_means _ _ parts.1))
 
-cut_passes : (n cost : ℕ) (cut : Cut) → cost ≤ 1000000000 → CutFits cost cut → cut_rule n cost cut ≡ Ok tt
+pub cut_passes : (n cost : ℕ) (cut : Cut) → cost ≤ 1000000000 → CutFits cost cut → cut_rule n cost cut ≡ Ok tt
 cut_passes n cost Full h f = refl
 cut_passes n cost Never h f = refl
 cut_passes n cost (Fixed segments) h f = rw (f.0, eq-eqb (sum segments) cost f.1) refl
@@ -70,7 +70,7 @@ promise_means (Promised horizon times) h =
     let low = holds_means _ _ parts.0 in
     (positive_low horizon low, positive_high horizon low, holds_means _ _ parts.1, holds_means _ _ last.1)
 
-promise_passes : (supply : SupplySpec) → IsPromise supply → supply_rule supply ≡ Ok tt
+pub promise_passes : (supply : SupplySpec) → IsPromise supply → supply_rule supply ≡ Ok tt
 promise_passes Whole h = refl
 promise_passes (Promised horizon times) h = rw (positive_from horizon h.0 h.1, h.2, h.3) refl
 

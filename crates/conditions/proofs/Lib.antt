@@ -1,0 +1,2 @@
+pub mod FailedFacts
+pub mod MeetFacts

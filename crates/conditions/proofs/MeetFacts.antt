@@ -1,0 +1,109 @@
+use Rattle.std.proofs.Common.{◌≡◌, ℕ, ◌-◌, nat_le, nat_lt, Bool, true, false, Option, Some, None, List, [], ◌∷◌, length, refl, ap}
+use Rattle.std.proofs.lemmas.Bool.{and_parts, and_from, eqb-true, eq-eqb, leb-true, le-leb, ltb-true, lt-ltb}
+use Rattle.lists.proofs.FirstFacts.{must_holds, must_from, first_parts, first_from, none_below, none_from}
+use Rattle.task_sheet.specs.SheetParts.{SheetParts}
+use Rattle.policy.specs.PolicyMeaning.{PolicyMeaning}
+use Rattle.preemption.specs.CutMeaning.{CutMeaning}
+use Rattle.demand.specs.Demand.{window_need_of}
+use Rattle.search_space.proofs.PointFacts.{same_means, same_true}
+use Rattle.certificate.specs.declared.cert.Entry.{Entry}
+use Rattle.certificate.specs.declared.cert.Cert.{Cert}
+use Rattle.abstract_rta.specs.Meeting.{ComesNext, KeepsGap, PointMeets, PointsMeet}
+use Rattle.conditions.specs.declared.failed.Cond.{Cond}
+use Rattle.conditions.specs.Conditions.{entry_at, is_in_time, comes_next, gap_failed_of, point_failed_of, points_failed_of, named, task_failed_of, failed_of}
+use Rattle.conditions.specs.Meets.{IsInTime, TaskMeets, CertMeets}
+
+module _ (p : PolicyMeaning) (m : CutMeaning) (sbf : ℕ → ℕ) (sheet : SheetParts) (i : ℕ) where
+  pub gap_means : (before : Option ℕ) (q : ℕ) → gap_failed_of p sheet i before q ≡ None → KeepsGap p sheet i before q
+  gap_means None q h = tt
+  gap_means (Some before) q h = same_means p sheet i before (q - 1) (must_holds _ _ h)
+
+  pub gap_none : (before : Option ℕ) (q : ℕ) → KeepsGap p sheet i before q → gap_failed_of p sheet i before q ≡ None
+  gap_none None q h = refl
+  gap_none (Some before) q h = must_from _ _ (same_true p sheet i before (q - 1) h)
+
+  next_means : (before : Option ℕ) (a : ℕ) → comes_next before a ≡ true → ComesNext before a
+  next_means None a h = eqb-true a 0 h
+  next_means (Some before) a h = ltb-true before a h
+
+  next_true : (before : Option ℕ) (a : ℕ) → ComesNext before a → comes_next before a ≡ true
+  next_true None a h = eq-eqb a 0 h
+  next_true (Some before) a h = lt-ltb before a h
+
+  pub point_means : (window bound : ℕ) (before : Option ℕ) (a x : ℕ) → point_failed_of p m sbf sheet i window bound before a x ≡ None → PointMeets p m sbf sheet i window bound before a x
+  point_means window bound before a x h =
+      let one = first_parts _ _ h in
+      let two = first_parts _ _ one.1 in
+      let three = first_parts _ _ two.1 in
+      let four = first_parts _ _ three.1 in
+      let listed = and_parts (comes_next before a) (nat_lt a window) (must_holds _ _ one.0) in
+      record {
+        next = next_means before a listed.0;
+        below = ltb-true a window listed.1;
+        gap = gap_means before a two.0;
+        end = record { enough = leb-true _ _ (must_holds _ _ four.0) };
+        within = record { end = leb-true _ _ (must_holds _ _ three.0); enough = leb-true _ _ (must_holds _ _ four.1) };
+      }
+
+  pub point_none : (window bound : ℕ) (before : Option ℕ) (a x : ℕ) → PointMeets p m sbf sheet i window bound before a x → point_failed_of p m sbf sheet i window bound before a x ≡ None
+  point_none window bound before a x meets =
+      first_from _ _ (must_from _ _ (and_from (comes_next before a) (nat_lt a window) (next_true before a meets.next) (lt-ltb a window meets.below)))
+      (first_from _ _ (gap_none before a meets.gap)
+      (first_from _ _ (must_from _ _ (le-leb _ _ meets.within.end))
+      (first_from _ _ (must_from _ _ (le-leb _ _ meets.end.enough)) (must_from _ _ (le-leb _ _ meets.within.enough)))))
+
+  pub points_mean : (window bound : ℕ) (before : Option ℕ) (qs : List (ℕ × ℕ)) → points_failed_of p m sbf sheet i window bound before qs ≡ None → PointsMeet p m sbf sheet i window bound before qs
+  points_mean window bound before [] h = gap_means before window h
+  points_mean window bound before (q ∷ qs) h =
+      let parts = first_parts _ _ h in
+      (point_means window bound before q.0 q.1 parts.0, points_mean window bound (Some q.0) qs parts.1)
+
+  pub points_none : (window bound : ℕ) (before : Option ℕ) (qs : List (ℕ × ℕ)) → PointsMeet p m sbf sheet i window bound before qs → points_failed_of p m sbf sheet i window bound before qs ≡ None
+  points_none window bound before [] meet = gap_none before window meet
+  points_none window bound before (q ∷ qs) meet = first_from _ _ (point_none window bound before q.0 q.1 meet.0) (points_none window bound (Some q.0) qs meet.1)
+
+  time_means : (deadlines : Bool) (bound : ℕ) → is_in_time sheet deadlines i bound ≡ true → IsInTime sheet deadlines i bound
+  time_means true bound h = leb-true _ _ h
+  time_means false bound h = tt
+
+  time_true : (deadlines : Bool) (bound : ℕ) → IsInTime sheet deadlines i bound → is_in_time sheet deadlines i bound ≡ true
+  time_true true bound h = le-leb _ _ h
+  time_true false bound h = refl
+
+  named_none : (cond : Option Cond) → named i cond ≡ None → cond ≡ None
+  named_none None h = refl
+  named_none (Some cond) h = cc
+
+  pub task_means : (deadlines : Bool) (e : Entry) → task_failed_of p m sbf sheet deadlines i e ≡ None → TaskMeets p m sbf sheet deadlines i e
+  unfolding task_failed_of
+  task_means deadlines e h =
+      let parts = first_parts _ _ h in
+      let whole = first_parts _ _ (named_none _ parts.0) in
+      let window = and_parts (nat_le 1 e.window) (nat_le (window_need_of p m sheet i e.window) (sbf e.window)) (must_holds _ _ whole.0) in
+      record {
+        window = record { positive = leb-true _ _ window.0; enough = leb-true _ _ window.1 };
+        in_time = time_means deadlines e.bound (must_holds _ _ whole.1);
+        points = points_mean e.window e.bound None e.points parts.1;
+      }
+
+  pub task_none : (deadlines : Bool) (e : Entry) → TaskMeets p m sbf sheet deadlines i e → task_failed_of p m sbf sheet deadlines i e ≡ None
+  unfolding task_failed_of
+  task_none deadlines e meets =
+      let window = and_from (nat_le 1 e.window) (nat_le (window_need_of p m sheet i e.window) (sbf e.window)) (le-leb _ _ meets.window.positive) (le-leb _ _ meets.window.enough) in
+      first_from _ _ (ap (named i) (first_from _ _ (must_from _ _ window) (must_from _ _ (time_true deadlines e.bound meets.in_time))))
+      (points_none e.window e.bound None e.points meets.points)
+
+pub cert_means : (p : PolicyMeaning) (m : CutMeaning) (sbf : ℕ → ℕ) (sheet : SheetParts) (deadlines : Bool) (cert : Cert) → failed_of p m sbf sheet deadlines cert ≡ None → CertMeets p m sbf sheet deadlines cert
+unfolding failed_of
+cert_means p m sbf sheet deadlines cert h =
+    let parts = first_parts _ _ h in
+    record {
+      count = eqb-true _ _ (must_holds _ _ parts.0);
+      tasks = λ i l. task_means p m sbf sheet i deadlines (entry_at cert i) (none_below (λ k. task_failed_of p m sbf sheet deadlines k (entry_at cert k)) (length sheet.tasks) i parts.1 l);
+    }
+
+pub cert_none : (p : PolicyMeaning) (m : CutMeaning) (sbf : ℕ → ℕ) (sheet : SheetParts) (deadlines : Bool) (cert : Cert) → CertMeets p m sbf sheet deadlines cert → failed_of p m sbf sheet deadlines cert ≡ None
+unfolding failed_of
+cert_none p m sbf sheet deadlines cert meets =
+    first_from _ _ (must_from _ _ (eq-eqb _ _ meets.count))
+    (none_from (λ k. task_failed_of p m sbf sheet deadlines k (entry_at cert k)) (length sheet.tasks) (λ i l. task_none p m sbf sheet i deadlines (entry_at cert i) (meets.tasks i l)))

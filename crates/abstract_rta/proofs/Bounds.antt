@@ -1,9 +1,16 @@
 use Rattle.std.proofs.Common.{◌≡◌, ℕ, ◌+◌, ◌-◌, ◌<◌, ◌≤◌, true, length, ap, subst, inl, inr, arith}
 use Rattle.std.proofs.lemmas.Bool.{cases_lt}
+use Rattle.task_sheet.specs.SheetParts.{SheetParts}
+use Rattle.task_sheet.specs.Sheets.{IsValidSheet, task_at}
+use Rattle.policy.specs.PolicyLaws.{IsLawfulPolicy}
+use Rattle.policy.specs.PolicyMeaning.{PolicyMeaning}
+use Rattle.preemption.specs.CutLaws.{IsLawfulCut}
+use Rattle.preemption.specs.CutMeaning.{CutMeaning}
 use Rattle.run_model.specs.Runs.{job_at, service_of, IsDone}
+use Rattle.schedule_laws.specs.Bounded.{IsBounded}
 use Rattle.busy_window.specs.Busy.{IsQuiet}
 use Rattle.busy_window.proofs.Quiet.{last_quiet}
-use Rattle.busy_window.proofs.Setting.{Setting, of_sheet}
+use Rattle.busy_window.proofs.Setting.{Setting, setting_of, of_sheet}
 use Rattle.abstract_rta.specs.Meeting.{IsWindow, MeetsAt}
 use Rattle.abstract_rta.proofs.Classes.{of_class, class_short}
 use Rattle.abstract_rta.proofs.Targets.{urgent, in_time}
@@ -12,10 +19,12 @@ module _ (g : Setting) (i window bound : ℕ) (in_range : i < length g.sheet.tas
   -- a tick that is quiet for the class of i is quiet for the jobs as urgent as a job of i
   class_quiet : (j t : ℕ) → j < length g.run.jobs → (job_at g.run j).task ≡ i → IsQuiet g.run (of_class g i) t → IsQuiet g.run (urgent g j) t
   unfolding of_class urgent
-  class_quiet j t listed is_i quiet k b u = quiet k b (subst (λ w. g.p.class g.sheet w (job_at g.run k).task ≡ true) is_i (g.lawful.higher_class (job_at g.run k) (job_at g.run j) (of_sheet g k b) (of_sheet g j listed) u))
+  class_quiet j t listed is_i quiet k b u =
+      let class = g.lawful.higher_class (job_at g.run k) (job_at g.run j) (of_sheet g k b) (of_sheet g j listed) u in
+      quiet k b (subst (λ w. g.p.class g.sheet w (job_at g.run k).task ≡ true) is_i class)
 
-  pub done_in_time : (ends : ℕ → ℕ) → ((a : ℕ) → a < window → MeetsAt g.p g.m g.sbf g.sheet i bound a (ends a)) → (j : ℕ) → j < length g.run.jobs → (job_at g.run j).task ≡ i → (job_at g.run j).arrival + bound ≤ length g.run.ticks →
-      IsDone g.run j ((job_at g.run j).arrival + bound)
+  done_in_time : (ends : ℕ → ℕ) → ((a : ℕ) → a < window → MeetsAt g.p g.m g.sbf g.sheet i bound a (ends a)) →
+      (j : ℕ) → j < length g.run.jobs → (job_at g.run j).task ≡ i → (job_at g.run j).arrival + bound ≤ length g.run.ticks → IsDone g.run j ((job_at g.run j).arrival + bound)
   done_in_time ends meets j listed is_i long = elim (cases_lt (service_of g.run j ((job_at g.run j).arrival + bound)) (job_at g.run j).cost) [
     | inr done ↦ done
     | inl less ↦
@@ -35,3 +44,11 @@ module _ (g : Setting) (i window bound : ℕ) (in_range : i < length g.sheet.tas
         absurd (in_time g i j last.0 a (ends a) (record { in_range = in_range; listed = listed; is_i = is_i; arrives = omega (arith, last.1) }) bound
         meet.end meet.within (omega (arith, e, long)) last.2 (λ v b c. last.3 v b (omega (arith, last.1))) (omega (arith, less, ap (service_of g.run j) e)))
   ]
+
+-- the theorem over plain meanings, with a function from offsets to ends
+pub bounded : (p : PolicyMeaning) (m : CutMeaning) (sbf : ℕ → ℕ) (sheet : SheetParts) →
+    IsValidSheet sheet → IsLawfulPolicy p sheet → ((o : ℕ) → o < length sheet.tasks → IsLawfulCut m (task_at sheet o)) →
+    (i window bound : ℕ) (ends : ℕ → ℕ) → i < length sheet.tasks → IsWindow p m sbf sheet i window →
+    ((a : ℕ) → a < window → MeetsAt p m sbf sheet i bound a (ends a)) → IsBounded p m sbf sheet i bound
+bounded p m sbf sheet valid lawful cut i window bound ends in_range enough meets run ok j listed is_i long =
+    done_in_time (setting_of p m sbf sheet valid lawful cut run ok) i window bound in_range enough ends meets j listed is_i long

@@ -8,7 +8,7 @@ use Rattle.run_model.proofs.ServiceFacts.{service_le}
 use Rattle.demand.specs.Demand.{delay_of, class_part_of, window_need_of}
 use Rattle.busy_window.specs.Busy.{IsUpSet, IsQuiet, HasPending, IsBusy}
 use Rattle.busy_window.proofs.Quiet.{IsLate}
-use Rattle.busy_window.proofs.Setting.{Setting, ran, of_sheet, fit_of, served}
+use Rattle.busy_window.proofs.Setting.{Setting, ran, of_sheet, fit_of, segment_of, served}
 use Rattle.busy_window.proofs.Stretches.{inside_since, enough_inside}
 use Rattle.abstract_rta.specs.Meeting.{IsWindow}
 use Rattle.abstract_rta.proofs.Caps.{windowed, most_at}
@@ -20,7 +20,11 @@ module _ (g : Setting) where
   still_pending set t h late = record {
     job = late.job;
     inside = late.inside;
-    pending = record { listed = late.listed; arrived = omega (arith, late.earlier); not_done = omega (arith, late.not_done, service_le g.run late.job t (suc t) (omega arith) (omega arith)) };
+    pending = record {
+      listed = late.listed;
+      arrived = omega (arith, late.earlier);
+      not_done = omega (arith, late.not_done, service_le g.run late.job t (suc t) (omega arith) (omega arith));
+    };
   }
 
   late_since : (set : ℕ → Bool) (s u : ℕ) → s ≤ u → u ≤ length g.run.ticks → IsQuiet g.run set s → (late : IsLate g.run set u) → s ≤ (job_at g.run late.job).arrival
@@ -54,7 +58,7 @@ module _ (g : Setting) (i : ℕ) (in_range : i < length g.sheet.tasks) where
   unfolding class_window
   within_class l = sum_le _ _ (length g.sheet.tasks) (λ o b. windowed (g.p.class g.sheet i o) (task_at g.sheet o).curve (g.sheet_ok.each o b).curve (task_at g.sheet o).cost l)
 
-  delay_bound : (k : ℕ) → k < length g.run.jobs → of_class g i k ≡ false → g.m.longest (task_at g.sheet (job_at g.run k).task) - 1 ≤ class_delay g i
+  delay_bound : (k : ℕ) → k < length g.run.jobs → of_class g i k ≡ false → segment_of g k - 1 ≤ class_delay g i
   unfolding of_class
   delay_bound k b o =
       let task = (job_at g.run k).task in
@@ -63,7 +67,8 @@ module _ (g : Setting) (i : ℕ) (in_range : i < length g.sheet.tasks) where
       (and_from _ _ (ap not (ne_eqb task i other)) (g.lawful.outside_delays i task in_range (of_sheet g k b) o))
 
   -- since a quiet tick of the class after which none is quiet, fewer ticks have passed than the window has
-  pub class_short : (l s a : ℕ) → IsWindow g.p g.m g.sbf g.sheet i l → s ≤ a → a ≤ length g.run.ticks → IsQuiet g.run (of_class g i) s → ((u : ℕ) → s < u → u ≤ a → IsLate g.run (of_class g i) u) → a < s + l
+  pub class_short : (l s a : ℕ) → IsWindow g.p g.m g.sbf g.sheet i l → s ≤ a → a ≤ length g.run.ticks → IsQuiet g.run (of_class g i) s →
+      ((u : ℕ) → s < u → u ≤ a → IsLate g.run (of_class g i) u) → a < s + l
   unfolding of_class class_window window_need_of
   class_short l s a window h long quiet late = elim (cases_lt a (s + l)) [
     | inl below ↦ below
@@ -79,10 +84,12 @@ module _ (g : Setting) (i : ℕ) (in_range : i < length g.sheet.tasks) where
         let e : g.p.class g.sheet i (job_at g.run last.job).task ≡ true = last.inside in
         let enough : g.sbf (s + l - s) ≤ class_delay g i + served g (in_window (class_window g i l) s g.run) (s + l) =
         enough_inside g (of_class g i) s (s + l) class_up stretch (in_window (class_window g i l) s g.run)
-        (λ v k b c r inside. window_from (class_window g i l) s g.run k (inside_since g (of_class g i) s (s + l) class_up stretch v k b c r inside) (omega (arith, (ran g v k (omega arith) r).arrived, ap (λ (b : Bool). cond b l 0) inside)))
+        (λ v k b c r inside. window_from (class_window g i l) s g.run k (inside_since g (of_class g i) s (s + l) class_up stretch v k b c r inside)
+        (omega (arith, (ran g v k (omega arith) r).arrived, ap (λ (b : Bool). cond b l 0) inside)))
         _ (omega arith) (λ k b o n. delay_bound k b o) in
         let lacks : service_of g.run last.job (s + l) + 1 ≤ (task_at g.sheet (job_at g.run last.job).task).cost =
         omega (arith, last.not_done, (g.cut (job_at g.run last.job).task (of_sheet g last.job last.listed)).cost_bound (job_at g.run last.job) (fit_of g last.job last.listed)) in
-        let demand = demand_gap g (class_window g i l) s (s + l) last.job 1 (omega arith) last.listed (window_from (class_window g i l) s g.run last.job since (omega (arith, last.earlier, ap (λ (b : Bool). cond b l 0) e))) lacks in
+        let in_time = window_from (class_window g i l) s g.run last.job since (omega (arith, last.earlier, ap (λ (b : Bool). cond b l 0) e)) in
+        let demand = demand_gap g (class_window g i l) s (s + l) last.job 1 (omega arith) last.listed in_time lacks in
         absurd (omega (arith, enough, demand, within_class l, window.enough, ap g.sbf (window_length s l)))
   ]

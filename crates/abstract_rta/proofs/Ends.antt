@@ -1,4 +1,4 @@
-use Rattle.std.proofs.Common.{◌≡◌, ℕ, zero, suc, ◌-◌, ◌<◌, ◌≤◌, Some, None, List, [], ◌∷◌, cond, nat_le, length, get_or, refl, inl, inr, arith}
+use Rattle.std.proofs.Common.{◌≡◌, ℕ, zero, suc, ◌+◌, ◌-◌, ◌<◌, ◌≤◌, Some, None, List, [], ◌∷◌, cond, nat_le, length, get_or, refl, inl, inr, arith}
 use Rattle.std.proofs.lemmas.Bool.{cases_lt, le-leb, lt-leb}
 use Rattle.task_sheet.specs.SheetParts.{SheetParts}
 use Rattle.task_sheet.specs.Sheets.{IsValidSheet}
@@ -14,7 +14,7 @@ abbrev pub end_for : ℕ → List (ℕ × ℕ) → ℕ → ℕ
 end_for before [] a = before
 end_for before (q ∷ qs) a = cond (nat_le q.0 a) (end_for q.1 qs a) before
 
--- f 0, .., f (n - 1)
+-- the list of f 0, .., f (n - 1)
 abbrev listed : (ℕ → ℕ) → ℕ → List ℕ
 listed f zero = []
 listed f (suc n) = f 0 ∷ listed (λ k. f (suc k)) n
@@ -32,11 +32,13 @@ only_one : (first : ℕ × ℕ) (k : ℕ) → k < 1 → (point_at (first ∷ [])
 only_one first zero h = omega arith
 only_one first (suc k) h = absurd (omega arith)
 
-first_of_those : (first : ℕ × ℕ) (points : List (ℕ × ℕ)) (a k : ℕ) → ((n : ℕ) → n < length points → a < (point_at points n).0) → k < suc (length points) → (point_at (first ∷ points) k).0 ≤ a → (point_at (first ∷ points) k).0 ≤ first.0
+first_of_those : (first : ℕ × ℕ) (points : List (ℕ × ℕ)) (a k : ℕ) → ((n : ℕ) → n < length points → a < (point_at points n).0) →
+    k < suc (length points) → (point_at (first ∷ points) k).0 ≤ a → (point_at (first ∷ points) k).0 ≤ first.0
 first_of_those first points a zero later h l = omega arith
 first_of_those first points a (suc k) later h l = absurd (omega (arith, later k (omega arith)))
 
-still_greatest : (first : ℕ × ℕ) (points : List (ℕ × ℕ)) (a top k : ℕ) → first.0 ≤ top → ((n : ℕ) → n < length points → (point_at points n).0 ≤ a → (point_at points n).0 ≤ top) → k < suc (length points) → (point_at (first ∷ points) k).0 ≤ a → (point_at (first ∷ points) k).0 ≤ top
+still_greatest : (first : ℕ × ℕ) (points : List (ℕ × ℕ)) (a top k : ℕ) → first.0 ≤ top → ((n : ℕ) → n < length points → (point_at points n).0 ≤ a → (point_at points n).0 ≤ top) →
+    k < suc (length points) → (point_at (first ∷ points) k).0 ≤ a → (point_at (first ∷ points) k).0 ≤ top
 still_greatest first points a top zero h greatest b l = h
 still_greatest first points a top (suc k) h greatest b l = greatest k (omega arith) l
 
@@ -47,11 +49,13 @@ module _ (p : PolicyMeaning) (m : CutMeaning) (sbf : ℕ → ℕ) (sheet : Sheet
   after (q ∷ qs) before meet zero h = meet.0.next
   after (q ∷ qs) before meet (suc k) h = omega (arith, meet.0.next, after qs q.0 meet.1 k (omega arith))
 
-  from_first : (points : List (ℕ × ℕ)) (first : ℕ × ℕ) → PointsMeet p m sbf sheet i window bound (Some first.0) points → (k : ℕ) → k < suc (length points) → first.0 ≤ (point_at (first ∷ points) k).0
+  from_first : (points : List (ℕ × ℕ)) (first : ℕ × ℕ) → PointsMeet p m sbf sheet i window bound (Some first.0) points →
+      (k : ℕ) → k < suc (length points) → first.0 ≤ (point_at (first ∷ points) k).0
   from_first points first meet zero h = omega arith
   from_first points first meet (suc k) h = omega (arith, after points first.0 meet k (omega arith))
 
-  chosen : (points : List (ℕ × ℕ)) (first : ℕ × ℕ) (a : ℕ) → PointsMeet p m sbf sheet i window bound (Some first.0) points → first.0 ≤ a → IsEndFor (first ∷ points) a (end_for first.1 points a)
+  chosen : (points : List (ℕ × ℕ)) (first : ℕ × ℕ) (a : ℕ) → PointsMeet p m sbf sheet i window bound (Some first.0) points → first.0 ≤ a →
+      IsEndFor (first ∷ points) a (end_for first.1 points a)
   chosen [] first a meet h = record { point = 0; listed = omega arith; reached = h; greatest = λ k b l. only_one first k b; end = refl }
   chosen (q ∷ qs) first a meet h = elim (cases_lt a q.0) [
     | inl before ↦
@@ -74,8 +78,9 @@ module _ (p : PolicyMeaning) (m : CutMeaning) (sbf : ℕ → ℕ) (sheet : Sheet
   ]
 
   -- with the laws of the policy and a supply that never falls
-  module _ (ok : IsValidSheet sheet) (lawful : IsLawfulPolicy p sheet) (rises : (d : ℕ) → sbf d ≤ sbf (suc d)) (in_range : i < length sheet.tasks) where
-    at_each : (points : List (ℕ × ℕ)) (first : ℕ × ℕ) (a : ℕ) → MeetsEnd p m sbf sheet i first.0 first.1 → MeetsBound p m sbf sheet i first.0 first.1 bound → PointsMeet p m sbf sheet i window bound (Some first.0) points → first.0 ≤ a → a < window →
+  module _ (ok : IsValidSheet sheet) (lawful : IsLawfulPolicy p sheet) (rises : (d : ℕ) → sbf d ≤ sbf (d + 1)) (in_range : i < length sheet.tasks) where
+    at_each : (points : List (ℕ × ℕ)) (first : ℕ × ℕ) (a : ℕ) → MeetsEnd p m sbf sheet i first.0 first.1 → MeetsBound p m sbf sheet i first.0 first.1 bound →
+        PointsMeet p m sbf sheet i window bound (Some first.0) points → first.0 ≤ a → a < window →
         MeetsAt p m sbf sheet i bound a (end_for first.1 points a)
     at_each [] first a end within meet h l = across p m sheet ok lawful i in_range sbf rises bound first.0 a (window - 1) first.1 h (omega arith) meet end within
     at_each (q ∷ qs) first a end within meet h l = elim (cases_lt a q.0) [

@@ -1,4 +1,4 @@
-use Rattle.std.proofs.Common.{◌≡◌, ℕ, zero, suc, ◌+◌, ◌-◌, ◌*◌, ◌<◌, ◌≤◌, ◌≢◌, ◌==◌, min, Bool, true, false, cond, not, length, refl, sym, ap, inl, inr, arith, add-suc, add-zero, eq-eqb}
+use Rattle.std.proofs.Common.{◌≡◌, ℕ, zero, suc, ◌+◌, ◌-◌, ◌*◌, ◌<◌, ◌≤◌, ◌≢◌, ◌==◌, min, Bool, true, false, cond, not, length, refl, sym, ap, inl, inr, arith, add-suc, add-zero, add-one, eq-eqb}
 use Rattle.std.specs.Prelude.{ℤ, pos, negsuc, ◌≤ℤ◌}
 use Rattle.std.proofs.lemmas.Bool.{cases_lt, and_from, and_parts, eqb-false, ne_eqb, not-true}
 use Rattle.std.proofs.lemmas.Int.{ints}
@@ -26,7 +26,8 @@ floor_mono (pos a) (negsuc b) h = absurd (omega (arith, ints))
 floor_mono (negsuc a) d h = omega arith
 
 -- where the whole count stays, so does its part up to x
-same_part : (curve : Curve) → IsCurve curve → (low mid high x : ℕ) → low ≤ mid → mid ≤ high → alpha_of curve low ≡ alpha_of curve high → alpha_of curve (min x mid) ≤ alpha_of curve (min x low)
+same_part : (curve : Curve) → IsCurve curve → (low mid high x : ℕ) → low ≤ mid → mid ≤ high → alpha_of curve low ≡ alpha_of curve high →
+    alpha_of curve (min x mid) ≤ alpha_of curve (min x low)
 same_part curve ok low mid high x h l e = elim (cases_lt low x) [
   | inr below ↦
       let m : min x mid ≡ min x low = omega arith in
@@ -37,7 +38,8 @@ same_part curve ok low mid high x h l e = elim (cases_lt low x) [
 ]
 
 -- between two caps that admit as many jobs in all, no cap admits more within x ticks
-pub count_stays : (curve : Curve) → IsCurve curve → (x : ℕ) (from at to : Cap) → GrowsTo from at → GrowsTo at to → cap_count curve from ≡ cap_count curve to → capped_count curve at x ≤ capped_count curve from x
+pub count_stays : (curve : Curve) → IsCurve curve → (x : ℕ) (from at to : Cap) → GrowsTo from at → GrowsTo at to → cap_count curve from ≡ cap_count curve to →
+    capped_count curve at x ≤ capped_count curve from x
 count_stays curve ok x Nothing Nothing to h l e = omega arith
 count_stays curve ok x All All to h l e = omega arith
 count_stays curve ok x (At c) (At d) (At f) h l e = same_part curve ok (not_below_zero c) (not_below_zero d) (not_below_zero f) x (floor_mono c d h) (floor_mono d f l) e
@@ -58,9 +60,9 @@ implied_le : (b c : Bool) (m : ℕ) → (b ≡ true → c ≡ true) → cond b m
 implied_le false c m h = omega arith
 implied_le true c m h = omega (arith, ap (λ (b : Bool). cond b m 0) (h refl))
 
-pub sbf_mono : (sbf : ℕ → ℕ) → ((d : ℕ) → sbf d ≤ sbf (suc d)) → (d e : ℕ) → sbf d ≤ sbf (d + e)
+pub sbf_mono : (sbf : ℕ → ℕ) → ((d : ℕ) → sbf d ≤ sbf (d + 1)) → (d e : ℕ) → sbf d ≤ sbf (d + e)
 sbf_mono sbf rises d zero = rw add-zero (omega arith)
-sbf_mono sbf rises d (suc e) = rw add-suc (omega (arith, sbf_mono sbf rises d e, rises (d + e)))
+sbf_mono sbf rises d (suc e) = rw add-suc (omega (arith, sbf_mono sbf rises d e, rw add-one at (rises (d + e))))
 
 module _ (p : PolicyMeaning) (sheet : SheetParts) (i from last : ℕ) (same : IsSame p sheet i from last) where
   own_same : i < length sheet.tasks → alpha_of (task_at sheet i).curve (from + 1) ≡ alpha_of (task_at sheet i).curve (last + 1)
@@ -97,7 +99,7 @@ module _ (p : PolicyMeaning) (m : CutMeaning) (sheet : SheetParts) (ok : IsValid
       )
 
   -- so what meets the conditions at the first of them meets them at each
-  pub across : (sbf : ℕ → ℕ) → ((d : ℕ) → sbf d ≤ sbf (suc d)) → (bound from a last x : ℕ) → from ≤ a → a ≤ last → IsSame p sheet i from last →
+  pub across : (sbf : ℕ → ℕ) → ((d : ℕ) → sbf d ≤ sbf (d + 1)) → (bound from a last x : ℕ) → from ≤ a → a ≤ last → IsSame p sheet i from last →
       MeetsEnd p m sbf sheet i from x → MeetsBound p m sbf sheet i from x bound → MeetsAt p m sbf sheet i bound a x
   across sbf rises bound from a last x h l same end within =
       let less = need_less from a last x h l same in

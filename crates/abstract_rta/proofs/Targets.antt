@@ -13,7 +13,7 @@ use Rattle.schedule_laws.specs.Compliance.{can_cut}
 use Rattle.demand.specs.Demand.{rest_of, own_of, others_of, blocking_of, need_of, other_of}
 use Rattle.busy_window.specs.Busy.{IsUpSet, IsQuiet, IsBusy}
 use Rattle.busy_window.proofs.Quiet.{IsLate}
-use Rattle.busy_window.proofs.Setting.{Setting, ran, in_order, of_sheet, fit_of}
+use Rattle.busy_window.proofs.Setting.{Setting, ran, in_order, of_sheet, fit_of, segment_of}
 use Rattle.busy_window.proofs.Stretches.{inside_since, enough_inside}
 use Rattle.abstract_rta.specs.Meeting.{MeetsEnd, MeetsBound}
 use Rattle.abstract_rta.proofs.Keys.{key_refl, key_trans}
@@ -43,9 +43,10 @@ module _ (g : Setting) (i j s a x : ℕ) (target : IsTarget g i j s a) where
   -- a job of task i that arrives no later than j is as urgent
   earlier_urgent : (k : ℕ) → k < length g.run.jobs → (job_at g.run k).task ≡ i → (job_at g.run k).arrival ≤ s + a → urgent g j k ≡ true
   unfolding urgent
-  earlier_urgent k b t h = g.lawful.in_order (job_at g.run k) (job_at g.run j) (of_sheet g k b) (of_sheet g j target.listed) (t ∙ sym target.is_i) (omega (arith, target.arrives))
+  earlier_urgent k b t h =
+      g.lawful.in_order (job_at g.run k) (job_at g.run j) (of_sheet g k b) (of_sheet g j target.listed) (t ∙ sym target.is_i) (omega (arith, target.arrives))
 
-  block_bound : (k : ℕ) → k < length g.run.jobs → urgent g j k ≡ false → (job_at g.run k).arrival < s → g.m.longest (task_at g.sheet (job_at g.run k).task) - 1 ≤ blocking_of g.p g.m g.sheet i a
+  block_bound : (k : ℕ) → k < length g.run.jobs → urgent g j k ≡ false → (job_at g.run k).arrival < s → segment_of g k - 1 ≤ blocking_of g.p g.m g.sheet i a
   unfolding urgent blocking_of
   block_bound k b o h =
       let task = (job_at g.run k).task in
@@ -55,7 +56,8 @@ module _ (g : Setting) (i j s a x : ℕ) (target : IsTarget g i j s a) where
       (and_from _ _ (ap not (ne_eqb task i other)) (subst (λ w. g.p.may_block g.sheet w task a ≡ true) target.is_i blocks))
 
   -- until j is done, some job as urgent is pending
-  urgent_stretch : (u : ℕ) → s ≤ u → u ≤ length g.run.ticks → s + a ≤ length g.run.ticks → IsQuiet g.run (urgent g j) s → ((v : ℕ) → s < v → v ≤ s + a → IsLate g.run (urgent g j) v) → service_of g.run j u < (job_at g.run j).cost → IsBusy g.run (urgent g j) s u
+  urgent_stretch : (u : ℕ) → s ≤ u → u ≤ length g.run.ticks → s + a ≤ length g.run.ticks →
+      IsQuiet g.run (urgent g j) s → ((v : ℕ) → s < v → v ≤ s + a → IsLate g.run (urgent g j) v) → service_of g.run j u < (job_at g.run j).cost → IsBusy g.run (urgent g j) s u
   unfolding urgent
   urgent_stretch u from long l quiet late less = record {
     order = from;
@@ -72,7 +74,8 @@ module _ (g : Setting) (i j s a x : ℕ) (target : IsTarget g i j s a) where
   }
 
   -- what runs of the set in the stretch arrives in its window
-  in_its_window : (u v k : ℕ) → IsBusy g.run (urgent g j) s u → service_of g.run j u < (job_at g.run j).cost → s ≤ v → v < u → tick_at g.run v ≡ Runs k → urgent g j k ≡ true → (k ≢ j → v < s + x) → in_window urgent_window s g.run k ≡ true
+  in_its_window : (u v k : ℕ) → IsBusy g.run (urgent g j) s u → service_of g.run j u < (job_at g.run j).cost →
+      s ≤ v → v < u → tick_at g.run v ≡ Runs k → urgent g j k ≡ true → (k ≢ j → v < s + x) → in_window urgent_window s g.run k ≡ true
   unfolding urgent urgent_window
   in_its_window u v k stretch less b c r t early =
       let long : v < length g.run.ticks = omega (arith, stretch.long) in
@@ -85,13 +88,15 @@ module _ (g : Setting) (i j s a x : ℕ) (target : IsTarget g i j s a) where
           | inr h ↦ absurd (omega (arith, in_order g v k j long r target.listed (target.is_i ∙ sym e) (omega (arith, target.arrives)), less, service_le g.run j v u (omega arith) stretch.long))
         ]
         | inr ne ↦
-            let admits : Admits (g.p.cap g.sheet i task a) s (job_at g.run k).arrival =
-            subst (λ w. Admits (g.p.cap g.sheet w task a) s (job_at g.run k).arrival) target.is_i (g.lawful.capped s a (job_at g.run k) (job_at g.run j) (of_sheet g k p.listed) (of_sheet g j target.listed) (λ e. ne (e ∙ target.is_i)) target.arrives since t) in
+            let capped = g.lawful.capped s a (job_at g.run k) (job_at g.run j) (of_sheet g k p.listed) (of_sheet g j target.listed) (λ e. ne (e ∙ target.is_i)) target.arrives since t in
+            let admits : Admits (g.p.cap g.sheet i task a) s (job_at g.run k).arrival = subst (λ w. Admits (g.p.cap g.sheet w task a) s (job_at g.run k).arrival) target.is_i capped in
+            let in_cap = ap (λ (w : Bool). cond w (a + 1) (cap_window (g.p.cap g.sheet i task a) x)) (ne_eqb task i ne) in
             let soon : v < s + x = early (λ e. ne (ap (λ (w : ℕ). (job_at g.run w).task) e ∙ target.is_i)) in
-            omega (arith, admitted (g.p.cap g.sheet i task a) s (job_at g.run k).arrival x admits since (omega (arith, p.arrived, soon)), ap (λ (w : Bool). cond w (a + 1) (cap_window (g.p.cap g.sheet i task a) x)) (ne_eqb task i ne))
+            omega (arith, admitted (g.p.cap g.sheet i task a) s (job_at g.run k).arrival x admits since (omega (arith, p.arrived, soon)), in_cap)
       ])
 
-  other_demand : (o : ℕ) → o < length g.sheet.tasks → cond (o == i) 0 ((task_at g.sheet o).cost * alpha_of (task_at g.sheet o).curve (urgent_window o)) ≤ other_of g.p g.sheet i a x o
+  other_demand : (o : ℕ) → o < length g.sheet.tasks →
+      cond (o == i) 0 ((task_at g.sheet o).cost * alpha_of (task_at g.sheet o).curve (urgent_window o)) ≤ other_of g.p g.sheet i a x o
   unfolding urgent_window
   other_demand o b = masked (o == i) (task_at g.sheet o).curve (g.sheet_ok.each o b).curve (task_at g.sheet o).cost a x (g.p.cap g.sheet i o a)
 
@@ -107,7 +112,8 @@ module _ (g : Setting) (i j s a x : ℕ) (target : IsTarget g i j s a) where
       )
 
   -- the supply of the stretch, and what j lacks, are at most the demand
-  supply_used : (u gap : ℕ) → IsBusy g.run (urgent g j) s u → service_of g.run j u < (job_at g.run j).cost → ((v k : ℕ) → s ≤ v → v < u → tick_at g.run v ≡ Runs k → k ≢ j → v < s + x) → service_of g.run j u + gap ≤ (task_at g.sheet i).cost →
+  supply_used : (u gap : ℕ) → IsBusy g.run (urgent g j) s u → service_of g.run j u < (job_at g.run j).cost →
+      ((v k : ℕ) → s ≤ v → v < u → tick_at g.run v ≡ Runs k → k ≢ j → v < s + x) → service_of g.run j u + gap ≤ (task_at g.sheet i).cost →
       g.sbf (u - s) + gap ≤ blocking_of g.p g.m g.sheet i a + (task_at g.sheet i).cost * alpha_of (task_at g.sheet i).curve (a + 1) + others_of g.p g.sheet i a x
   unfolding urgent urgent_window
   supply_used u gap stretch less early lacks =
@@ -136,13 +142,16 @@ module _ (g : Setting) (i j s a x : ℕ) (target : IsTarget g i j s a) where
   ]
 
   -- from its threshold on the job is not cut
-  last_part : (v k : ℕ) → v < length g.run.ticks → g.m.threshold (task_at g.sheet i) ≤ service_of g.run j v → service_of g.run j v < (job_at g.run j).cost → tick_at g.run v ≡ Runs k → k ≡ j
+  last_part : (v k : ℕ) → v < length g.run.ticks → g.m.threshold (task_at g.sheet i) ≤ service_of g.run j v →
+      service_of g.run j v < (job_at g.run j).cost → tick_at g.run v ≡ Runs k → k ≡ j
   last_part v k long reached less r =
-      let f : can_cut g.m g.sheet g.run j v ≡ false = subst (λ w. g.m.cuttable (task_at g.sheet w) (job_at g.run j) (service_of g.run j v) ≡ false) (sym target.is_i) (laws.last_part (job_at g.run j) (service_of g.run j v) fits reached less) in
+      let uncut = laws.last_part (job_at g.run j) (service_of g.run j v) fits reached less in
+      let f : can_cut g.m g.sheet g.run j v ≡ false = subst (λ w. g.m.cuttable (task_at g.sheet w) (job_at g.run j) (service_of g.run j v) ≡ false) (sym target.is_i) uncut in
       same_job k j (tick_at g.run v) r (g.ok.segments v j long target.listed (not_off k (tick_at g.run v) r) f)
 
   -- so it is done by its bound
-  pub in_time : (bound : ℕ) → MeetsEnd g.p g.m g.sbf g.sheet i a x → MeetsBound g.p g.m g.sbf g.sheet i a x bound → s + (a + bound) ≤ length g.run.ticks → IsQuiet g.run (urgent g j) s → ((v : ℕ) → s < v → v ≤ s + a → IsLate g.run (urgent g j) v) → service_of g.run j (s + (a + bound)) < (job_at g.run j).cost → ⊥
+  pub in_time : (bound : ℕ) → MeetsEnd g.p g.m g.sbf g.sheet i a x → MeetsBound g.p g.m g.sbf g.sheet i a x bound → s + (a + bound) ≤ length g.run.ticks →
+      IsQuiet g.run (urgent g j) s → ((v : ℕ) → s < v → v ≤ s + a → IsLate g.run (urgent g j) v) → service_of g.run j (s + (a + bound)) < (job_at g.run j).cost → ⊥
   unfolding need_of own_of
   in_time bound end within long quiet late less =
       let u = s + (a + bound) in
@@ -152,4 +161,5 @@ module _ (g : Setting) (i j s a x : ℕ) (target : IsTarget g i j s a) where
         | inl l ↦ l
         | inr l ↦ absurd (ne (last_part v k (omega arith) (omega (arith, reached, service_le g.run j (s + x) v l (omega arith))) (omega (arith, less, service_le g.run j v u (omega arith) long)) r))
       ] in
-      omega (arith, supply_used u 1 (urgent_stretch u (omega arith) long (omega arith) quiet late less) less early (omega (arith, less, laws.cost_bound (job_at g.run j) fits)), within.enough, ap g.sbf (window_length s (a + bound)))
+      let used = supply_used u 1 (urgent_stretch u (omega arith) long (omega arith) quiet late less) less early (omega (arith, less, laws.cost_bound (job_at g.run j) fits)) in
+      omega (arith, used, within.enough, ap g.sbf (window_length s (a + bound)))

@@ -52,7 +52,8 @@ module _ (cost w : ℕ → ℕ) (s n : ℕ) (run : Run) (tasks : (k : ℕ) → k
             )
       ]
 
-  pub all_by_task : (bound : ℕ → ℕ) → ((o : ℕ) → o < n → count_by (arrives_in o s (s + w o)) run.jobs ≤ bound o) → sum_below (λ k. cond (in_window w s run k) (cost (job_at run k).task) 0) (length run.jobs) ≤ sum_below (λ o. cost o * bound o) n
+  pub all_by_task : (bound : ℕ → ℕ) → ((o : ℕ) → o < n → count_by (arrives_in o s (s + w o)) run.jobs ≤ bound o) →
+      sum_below (λ k. cond (in_window w s run k) (cost (job_at run k).task) 0) (length run.jobs) ≤ sum_below (λ o. cost o * bound o) n
   unfolding part
   all_by_task bound h =
       omega (
@@ -70,7 +71,8 @@ abbrev pub windows_demand : Setting → (ℕ → ℕ) → ℕ
 windows_demand g w = sum_below (λ o. (task_at g.sheet o).cost * alpha_of (task_at g.sheet o).curve (w o)) (length g.sheet.tasks)
 
 -- what the jobs in their windows have got, and what one of them lacks, is within the curves
-pub demand_gap : (g : Setting) (w : ℕ → ℕ) (s u j gap : ℕ) → u ≤ length g.run.ticks → j < length g.run.jobs → in_window w s g.run j ≡ true → service_of g.run j u + gap ≤ (task_at g.sheet (job_at g.run j).task).cost →
+pub demand_gap : (g : Setting) (w : ℕ → ℕ) (s u j gap : ℕ) → u ≤ length g.run.ticks → j < length g.run.jobs → in_window w s g.run j ≡ true →
+    service_of g.run j u + gap ≤ (task_at g.sheet (job_at g.run j).task).cost →
     served g (in_window w s g.run) u + gap ≤ windows_demand g w
 unfolding served arrivals_of
 demand_gap g w s u j gap h l i lacks =

@@ -26,7 +26,4 @@ pub fn from_points<P: Policy, M: Preemption, S: Supply>()
 /// completes each job of the task by its arrival plus the bound, where that lies within the run.
 pub fn points_bound<P: Policy, M: Preemption, S: Supply>()
     ensures { (supply : S) → S.is_supply supply → PointsBound P.meaning M.cuts (S.sbf supply) }
-{
-    bound::<P, M, S>();
-    from_points::<P, M, S>();
-}
+{}

@@ -23,11 +23,17 @@ pub record Setting : Type 0 where
   pub cut : (o : ℕ) → o < length sheet.tasks → IsLawfulCut m (task_at sheet o)
   pub ok : IsCompliant p m sbf sheet run
 
+abbrev pub setting_of : (p : PolicyMeaning) (m : CutMeaning) (sbf : ℕ → ℕ) (sheet : SheetParts) →
+    IsValidSheet sheet → IsLawfulPolicy p sheet → ((o : ℕ) → o < length sheet.tasks → IsLawfulCut m (task_at sheet o)) →
+    (run : Run) → IsCompliant p m sbf sheet run → Setting
+setting_of p m sbf sheet sheet_ok lawful cut run ok = record { p = p; m = m; sbf = sbf; sheet = sheet; run = run; sheet_ok = sheet_ok; lawful = lawful; cut = cut; ok = ok }
+
 module _ (g : Setting) where
   pub ran : (t k : ℕ) → t < length g.run.ticks → tick_at g.run t ≡ Runs k → IsPending g.run k t
   ran t k h r = (g.ok.valid.ticks t k h r).pending
 
-  pub in_order : (t k n : ℕ) → t < length g.run.ticks → tick_at g.run t ≡ Runs k → n < length g.run.jobs → (job_at g.run n).task ≡ (job_at g.run k).task → (job_at g.run n).arrival < (job_at g.run k).arrival → IsDone g.run n t
+  pub in_order : (t k n : ℕ) → t < length g.run.ticks → tick_at g.run t ≡ Runs k → n < length g.run.jobs →
+      (job_at g.run n).task ≡ (job_at g.run k).task → (job_at g.run n).arrival < (job_at g.run k).arrival → IsDone g.run n t
   in_order t k n h r = (g.ok.valid.ticks t k h r).in_order n
 
   pub of_sheet : (k : ℕ) → k < length g.run.jobs → IsOf g.sheet (job_at g.run k)
@@ -35,6 +41,10 @@ module _ (g : Setting) where
 
   pub fit_of : (k : ℕ) → k < length g.run.jobs → g.m.fits (task_at g.sheet (job_at g.run k).task) (job_at g.run k) ≡ true
   fit_of k h = (g.ok.valid.jobs k h).fit
+
+-- the longest segment of the task of job k
+abbrev pub segment_of : Setting → ℕ → ℕ
+segment_of g k = g.m.longest (task_at g.sheet (job_at g.run k).task)
 
 -- what the chosen jobs have got before t
 unfoldable pub served : Setting → (ℕ → Bool) → ℕ → ℕ

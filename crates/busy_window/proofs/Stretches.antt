@@ -9,7 +9,7 @@ use Rattle.run_model.proofs.ServiceFacts.{service_more, service_le, same_job, no
 use Rattle.schedule_laws.specs.Compliance.{can_cut}
 use Rattle.schedule_laws.proofs.PrefixFacts.{within_cost, arrived_before}
 use Rattle.busy_window.specs.Busy.{IsUpSet, IsBusy, runs_out}
-use Rattle.busy_window.proofs.Setting.{Setting, ran, of_sheet, fit_of, served}
+use Rattle.busy_window.proofs.Setting.{Setting, ran, of_sheet, fit_of, segment_of, served}
 
 pub cond_mono : (b : Bool) (m n : ℕ) → m ≤ n → cond b m 0 ≤ cond b n 0
 cond_mono b m n h = elim b as (λ b. cond b m 0 ≤ cond b n 0) [ true ↦ h | false ↦ omega arith ]
@@ -33,6 +33,10 @@ last_true test (suc n) h e = elim (cases_Bool (test n)) [
         ]),
       )
 ]
+
+-- a segment of a job outside the set that arrived before s blocks for at most so many ticks
+abbrev pub BlockAtMost : Setting → (ℕ → Bool) → ℕ → ℕ → Type 0
+BlockAtMost g set s most = (k : ℕ) → k < length g.run.jobs → set k ≡ false → (job_at g.run k).arrival < s → segment_of g k - 1 ≤ most
 
 -- a busy stretch [s, u) of an up-set
 module _ (g : Setting) (set : ℕ → Bool) (s u : ℕ) (up : IsUpSet g.p g.sheet g.run set) (stretch : IsBusy g.run set s u) where
@@ -86,7 +90,8 @@ module _ (g : Setting) (set : ℕ → Bool) (s u : ℕ) (up : IsUpSet g.p g.shee
     | inr l ↦ earlier_same w v n k b l c q p o
   ]
 
-  stays_within : (k top d : ℕ) → set k ≡ false → g.m.cuttable (task_at g.sheet (job_at g.run k).task) (job_at g.run k) top ≡ true → service_of g.run k s ≤ top → s + d ≤ u → service_of g.run k (s + d) ≤ top
+  stays_within : (k top d : ℕ) → set k ≡ false → g.m.cuttable (task_at g.sheet (job_at g.run k).task) (job_at g.run k) top ≡ true →
+      service_of g.run k s ≤ top → s + d ≤ u → service_of g.run k (s + d) ≤ top
   stays_within k top zero o t h b = rw add-zero h
   stays_within k top (suc d) o t h b =
       let ih = stays_within k top d o t h (omega arith) in
@@ -114,7 +119,7 @@ module _ (g : Setting) (set : ℕ → Bool) (s u : ℕ) (up : IsUpSet g.p g.shee
       let l = (ran g v k (omega (arith, stretch.long)) r).listed in
       arrived_before g.m g.sheet g.run g.ok.valid k s (omega (arith, stretch.long)) (uncut_served k l (uncut_from s v k (omega arith) a b o r))
 
-  pub outsider_short : (v k : ℕ) → s ≤ v → v < u → tick_at g.run v ≡ Runs k → set k ≡ false → suc (service_of g.run k u) ≤ service_of g.run k s + g.m.longest (task_at g.sheet (job_at g.run k).task)
+  pub outsider_short : (v k : ℕ) → s ≤ v → v < u → tick_at g.run v ≡ Runs k → set k ≡ false → suc (service_of g.run k u) ≤ service_of g.run k s + segment_of g k
   outsider_short v k a b r o =
       let l = (ran g v k (omega (arith, stretch.long)) r).listed in
       let task = task_at g.sheet (job_at g.run k).task in
@@ -170,7 +175,7 @@ module _ (g : Setting) (set : ℕ → Bool) (s u : ℕ) (up : IsUpSet g.p g.shee
             omega (arith, ih, more, ap (λ (b : Bool). cond {A = ℕ} b 1 0) t, service_more g.run k (s + d) long, ap (λ (b : Bool). cond {A = ℕ} b 1 0) (runs_self k (tick_at g.run (s + d)) i))
       ])
 
-  pub out_bound : (most : ℕ) → s ≤ u → ((k : ℕ) → k < length g.run.jobs → set k ≡ false → (job_at g.run k).arrival < s → g.m.longest (task_at g.sheet (job_at g.run k).task) - 1 ≤ most) → ticks_in (runs_out set) g.run s (u - s) ≤ most
+  pub out_bound : (most : ℕ) → s ≤ u → BlockAtMost g set s most → ticks_in (runs_out set) g.run s (u - s) ≤ most
   out_bound most h bound =
       let e : s + (u - s) ≡ u = omega arith in
       elim (none_or_outsider (u - s) (omega arith)) [
@@ -178,9 +183,12 @@ module _ (g : Setting) (set : ℕ → Bool) (s u : ℕ) (up : IsUpSet g.p g.shee
         | inr o ↦
             let below : o.at < u = omega (arith, o.to) in
             let l = (ran g o.at o.job (omega (arith, stretch.long)) o.is).listed in
-            omega (arith, out_of_one o.at o.job (u - s) o.from below o.is o.outside (omega arith), ap (service_of g.run o.job) e, outsider_short o.at o.job o.from below o.is o.outside, bound o.job l o.outside (outsider_early o.at o.job o.from below o.is o.outside))
+            let short = outsider_short o.at o.job o.from below o.is o.outside in
+            let early = outsider_early o.at o.job o.from below o.is o.outside in
+            omega (arith, out_of_one o.at o.job (u - s) o.from below o.is o.outside (omega arith), ap (service_of g.run o.job) e, short, bound o.job l o.outside early)
       ]
 
+  -- chosen jobs, all that run of the set among them
   module _ (chosen : ℕ → Bool) (is_chosen : (v k : ℕ) → s ≤ v → v < u → tick_at g.run v ≡ Runs k → set k ≡ true → chosen k ≡ true) where
     served_stays : (t : ℕ) → t < length g.run.ticks → served g chosen t ≤ served g chosen (suc t)
     unfolding served
@@ -204,13 +212,17 @@ module _ (g : Setting) (set : ℕ → Bool) (s u : ℕ) (up : IsUpSet g.p g.shee
           | inl off ↦ omega (arith, ih, on, out, served_stays (s + d) long, ap (λ (x : Tick). cond {A = ℕ} (is_on x) 1 0) off)
           | inr (inl idle) ↦ absurd (not_idle (s + d) (omega arith) (omega arith) idle)
           | inr (inr r) ↦ elim (cases_Bool (set r.0)) [
-            | inr o ↦ omega (arith, ih, on, out, served_stays (s + d) long, ap (λ (x : Tick). cond {A = ℕ} (is_on x) 1 0) r.1, ap (λ (x : Tick). cond {A = ℕ} (runs_out set x) 1 0) r.1, ap (λ (b : Bool). cond {A = ℕ} (not b) 1 0) o)
-            | inl i ↦ omega (arith, ih, on, out, served_grows (s + d) r.0 long (ran g (s + d) r.0 long r.1).listed r.1 (is_chosen (s + d) r.0 (omega arith) (omega arith) r.1 i), ap (λ (x : Tick). cond {A = ℕ} (is_on x) 1 0) r.1)
+            | inr o ↦
+                let counted = ap (λ (x : Tick). cond {A = ℕ} (runs_out set x) 1 0) r.1 in
+                omega (arith, ih, on, out, served_stays (s + d) long, ap (λ (x : Tick). cond {A = ℕ} (is_on x) 1 0) r.1, counted, ap (λ (b : Bool). cond {A = ℕ} (not b) 1 0) o)
+            | inl i ↦
+                let grows = served_grows (s + d) r.0 long (ran g (s + d) r.0 long r.1).listed r.1 (is_chosen (s + d) r.0 (omega arith) (omega arith) r.1 i) in
+                omega (arith, ih, on, out, grows, ap (λ (x : Tick). cond {A = ℕ} (is_on x) 1 0) r.1)
           ]
         ])
 
     -- the supply of the stretch goes to the chosen jobs, but for the rest of one segment
-    pub enough_inside : (most : ℕ) → s ≤ u → ((k : ℕ) → k < length g.run.jobs → set k ≡ false → (job_at g.run k).arrival < s → g.m.longest (task_at g.sheet (job_at g.run k).task) - 1 ≤ most) → g.sbf (u - s) ≤ most + served g chosen u
+    pub enough_inside : (most : ℕ) → s ≤ u → BlockAtMost g set s most → g.sbf (u - s) ≤ most + served g chosen u
     enough_inside most h bound =
         let e : s + (u - s) ≡ u = omega arith in
         omega (arith, g.ok.supplied s u h stretch.long, on_ticks (u - s) (omega arith), out_bound most h bound, ap (served g chosen) e)

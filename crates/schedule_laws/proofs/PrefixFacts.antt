@@ -1,10 +1,8 @@
-use Rattle.std.proofs.Common.{◌≡◌, ℕ, ◌<◌, ◌≤◌, true, length}
+use Rattle.std.proofs.Common.{ℕ, ◌<◌, ◌≤◌, length}
 use Rattle.task_sheet.specs.SheetParts.{SheetParts}
-use Rattle.policy.specs.PolicyLaws.{IsOf}
 use Rattle.preemption.specs.CutMeaning.{CutMeaning}
 use Rattle.run_model.specs.declared.run.Run.{Run}
-use Rattle.run_model.specs.declared.run.Tick.TheVariants.{Runs}
-use Rattle.run_model.specs.Runs.{job_at, tick_at, service_of, IsPending}
+use Rattle.run_model.specs.Runs.{job_at, service_of}
 use Rattle.run_model.proofs.ServiceFacts.{RunsPending, service_le_cost, served_arrived}
 use Rattle.schedule_laws.specs.Compliance.{IsValidRun}
 

@@ -12,3 +12,6 @@ mod tasks;
 
 pub use printing::print_sheet;
 pub use reading::read_sheet;
+
+#[cfg(test)]
+mod tests;

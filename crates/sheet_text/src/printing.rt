@@ -95,7 +95,12 @@ fn task_value(alloc: Global, task: &Task) -> Result<Value, AllocError>
     ensures { IfOk result (λ v. view v ≡ task_data task.now) }
 {
     let mut table = Table::new(alloc);
-    put(alloc, &mut table, "name", Value::string(alloc, task.name.as_str())?)?;
+    put(
+        alloc,
+        &mut table,
+        "name",
+        Value::string(alloc, task.name.as_str())?,
+    )?;
     put(alloc, &mut table, "cost", number(task.cost))?;
     put(alloc, &mut table, "deadline", number(task.deadline))?;
     put(alloc, &mut table, "priority", number(task.priority))?;
@@ -156,7 +161,12 @@ fn sheet_table(alloc: Global, sheet: &Sheet) -> Result<Table, AllocError>
     ensures valid { OnOk result (IsValidSheet sheet.now) }
 {
     let mut table = Table::new(alloc);
-    put(alloc, &mut table, "policy", Value::string(alloc, policy_word(sheet.policy()))?)?;
+    put(
+        alloc,
+        &mut table,
+        "policy",
+        Value::string(alloc, policy_word(sheet.policy()))?,
+    )?;
     put(alloc, &mut table, "task", task_values(alloc, sheet)?)?;
     put_promise(alloc, &mut table, sheet.supply())?;
     Ok(table)

@@ -1,13 +1,24 @@
-use Rattle.std.specs.Prelude.{ℕ, List, length, Option, Some, None, Result, Ok, Err, nat_le, if◌then◌else◌}
-use Rattle.poet_io.specs.Shelves.{Files}
+use Rattle.std.specs.Prelude.{◌≡◌, ℕ, Bool, List, length, Option, Some, None, Result, Ok, Err, IsOk, nat_le, if◌then◌else◌}
+use Rattle.poet_io.specs.Shelves.{Files, IfTold}
 use Rattle.task_sheet.specs.SheetParts.{SheetParts}
 use Rattle.task_sheet.specs.declared.refusal.SheetRefusal.{SheetRefusal}
 use Rattle.sheet_text.specs.SheetRows.{sheet_of_text}
+use Rattle.policy.specs.Policies.{meaning_of}
+use Rattle.preemption.specs.Kinds.{per_task_meaning}
+use Rattle.supply.specs.Promises.{sbf_of}
+use Rattle.cert_check.specs.declared.judging.Verdict.{Verdict}
+use Rattle.cert_check.specs.declared.judging.Verdict.TheVariants as verdict
+use Rattle.cert_check.specs.Verdicts.{verdict_of}
 use Rattle.poet_cli.specs.declared.refusal.Source.{Source}
 use Rattle.poet_cli.specs.declared.refusal.Source.TheVariants as source
 use Rattle.poet_cli.specs.declared.refusal.Refusal.{Refusal}
 use Rattle.poet_cli.specs.declared.refusal.Refusal.TheVariants.{Usage, Read, Sheet, Text, Limit, Memory}
+use Rattle.poet_cli.specs.declared.judged.Judged.{Judged}
+use Rattle.poet_cli.specs.declared.judged.Judged.TheVariants as judged
+use Rattle.poet_cli.specs.Words.{Asked, CheckOf, command_in}
 use Rattle.poet_cli.specs.Refusals.{limit_of}
+use Rattle.poet_cli.specs.Endings.{Ending}
+use Rattle.poet_cli.specs.Printing.{output_of}
 use Rattle.poet_cli.specs.Steps.{next}
 
 -- the bytes of a file, within the limit of its kind
@@ -25,3 +36,48 @@ sheet_read (Err refusal) = Err (Sheet refusal)
 -- the sheet of a file
 abbrev pub sheet_in : List ℕ → Files → Result SheetParts Refusal
 sheet_in name files = next (file_in source.Sheet name files) (λ bytes. sheet_read (sheet_of_text bytes))
+
+-- the verdict over the bytes of a certificate, by the sheet's own policy, preemption and supply
+abbrev pub sheet_verdict : SheetParts → Bool → List ℕ → Verdict
+sheet_verdict sheet deadlines bytes = verdict_of (meaning_of sheet.policy) per_task_meaning (sbf_of sheet.supply) sheet deadlines bytes
+
+abbrev pub judged_by : Verdict → Result Judged Refusal
+judged_by (verdict.Accepted bounds) = Ok (judged.Accepted bounds)
+judged_by (verdict.Text line) = Err (Text source.Certificate line)
+judged_by (verdict.Refused failed) = Ok (judged.Refused failed)
+
+-- the judgement of the certificate of a file
+abbrev pub judged_in : SheetParts → Bool → List ℕ → Files → Result Judged Refusal
+judged_in sheet deadlines name files = next (file_in source.Certificate name files) (λ bytes. judged_by (sheet_verdict sheet deadlines bytes))
+
+-- the answer from the opening of the certificate on
+abbrev pub rest_of : SheetParts → Bool → List ℕ → Files → Ending
+rest_of sheet deadlines name files = next (judged_in sheet deadlines name files) (λ judged. Ok (output_of sheet judged))
+
+abbrev pub check_answer : List ℕ → List ℕ → Bool → Files → Ending
+check_answer sheet certificate deadlines files = next (sheet_in sheet files) (λ parts. rest_of parts deadlines certificate files)
+
+abbrev pub asked_answer : Option Asked → Files → Ending
+asked_answer None files = Err Usage
+asked_answer (Some (CheckOf sheet certificate deadlines)) files = check_answer sheet certificate deadlines files
+
+-- the answer of the program to the words, over these files
+abbrev pub answer_of : List (List ℕ) → Files → Ending
+answer_of words files = asked_answer (command_in words) files
+
+-- which refusals may come whatever the shelf tells, of a command that reads a sheet and then a certificate
+abbrev pub MayFailAfterSheet : List ℕ → Option Files → Refusal → Type 0
+MayFailAfterSheet sheet told Usage = ⊥
+MayFailAfterSheet sheet told (Read source.Sheet) = Unit {0}
+MayFailAfterSheet sheet told (Read source.Certificate) = IfTold told (λ files. IsOk (sheet_in sheet files))
+MayFailAfterSheet sheet told (Sheet refusal) = Unit {0}
+MayFailAfterSheet sheet told (Text which line) = Unit {0}
+MayFailAfterSheet sheet told (Limit which) = Unit {0}
+MayFailAfterSheet sheet told Memory = Unit {0}
+
+abbrev pub MayAskedFail : Option Asked → Option Files → Refusal → Type 0
+MayAskedFail None told refusal = refusal ≡ Usage
+MayAskedFail (Some (CheckOf sheet certificate deadlines)) told refusal = MayFailAfterSheet sheet told refusal
+
+abbrev pub MayFail : List (List ℕ) → Option Files → Refusal → Type 0
+MayFail words told refusal = MayAskedFail (command_in words) told refusal

@@ -3,4 +3,6 @@ pub mod Refusals
 pub mod Endings
 pub mod Steps
 pub mod Clauses
+pub mod Printing
 pub mod Answers
+pub mod Headline

@@ -1,6 +1,6 @@
 use Rattle.std.specs.Prelude.{◌≡◌, ◌&&◌, List, [], ◌∷◌, ℕ, Bool, true, false, Option, Some, None, codes, bytes_eq, if◌then◌else◌}
-use Rattle.poet_cli.specs.declared.words.Command.{Command}
-use Rattle.poet_cli.specs.declared.words.Command.TheVariants.{Check}
+use Rattle.poet_cli.specs.declared.grammar.Command.{Command}
+use Rattle.poet_cli.specs.declared.grammar.Command.TheVariants.{Check}
 
 -- a command, with its words
 pub data Asked : Type 0 where

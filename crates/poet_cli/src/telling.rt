@@ -45,7 +45,7 @@ fn put_place(place: Place, digits: &mut [u8; 20]) -> (&'static str, usize)
 }
 
 /// Six pieces of one lifetime.
-fn write_six<'a, O: Sink>(
+pub fn write_six<'a, O: Sink>(
     out: &mut O,
     first: &'a [u8],
     second: &'a [u8],
@@ -182,7 +182,7 @@ fn write_limit<E: Sink>(source: Source, err: &mut E) -> Result<(), SinkFault>
 }
 
 /// Four pieces of one lifetime.
-fn write_four<'a, O: Sink>(
+pub fn write_four<'a, O: Sink>(
     out: &mut O,
     first: &'a [u8],
     second: &'a [u8],

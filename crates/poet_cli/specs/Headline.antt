@@ -1,0 +1,47 @@
+use Rattle.std.specs.Prelude.{◌≡◌, ℕ, Bool, List, length, Option, Some, None, Result, Ok}
+use Rattle.poet_io.specs.Shelves.{Files, IfTold}
+use Rattle.task_sheet.specs.SheetParts.{SheetParts}
+use Rattle.sheet_text.specs.SheetRows.{sheet_of_text}
+use Rattle.certificate.specs.declared.cert.Cert.{Cert}
+use Rattle.certificate.specs.Text.{Parses}
+use Rattle.policy.specs.Policies.{meaning_of}
+use Rattle.preemption.specs.Kinds.{per_task_meaning}
+use Rattle.supply.specs.Promises.{sbf_of}
+use Rattle.schedule_laws.specs.Bounded.{AreBounded}
+use Rattle.cert_check.specs.Verdicts.{bounds_of}
+use Rattle.poet_cli.specs.declared.judged.Judged.{Judged}
+use Rattle.poet_cli.specs.declared.judged.Judged.TheVariants.{Accepted, Refused}
+use Rattle.poet_cli.specs.Words.{Asked, CheckOf}
+
+-- the file's bytes are a certificate, with a bound for each task, and in every run that complies with the
+-- sheet every job whose arrival plus its task's bound lies within the run is done by then
+pub record BoundsHold (sheet : SheetParts) (name : List ℕ) (files : Files) : Type 0 where
+  pub bytes : List ℕ
+  pub file : files name ≡ Some bytes
+  pub cert : Cert
+  pub reads : Parses bytes cert
+  pub count : length cert.entries ≡ length sheet.tasks
+  pub bounded : AreBounded (meaning_of sheet.policy) per_task_meaning (sbf_of sheet.supply) sheet (bounds_of cert)
+
+-- the bytes of the two files are a sheet and a certificate, and its bounds hold for the sheet
+pub record HeadlineHolds (sheet_name certificate_name : List ℕ) (files : Files) : Type 0 where
+  pub bytes : List ℕ
+  pub file : files sheet_name ≡ Some bytes
+  pub sheet : SheetParts
+  pub reads : sheet_of_text bytes ≡ Ok sheet
+  pub bounds_hold : BoundsHold sheet certificate_name files
+
+-- what status 0 says of the files
+abbrev pub Headline : Option Asked → Files → Type 0
+Headline None files = ⊥
+Headline (Some (CheckOf sheet certificate deadlines)) files = HeadlineHolds sheet certificate files
+
+-- accepted bounds are one for each task, and hold
+abbrev pub IsSoundJudgement : SheetParts → List ℕ → Option Files → Judged → Type 0
+IsSoundJudgement sheet name told (Accepted bounds) = (length bounds ≡ length sheet.tasks) × IfTold told (BoundsHold sheet name)
+IsSoundJudgement sheet name told (Refused failed) = Unit {0}
+
+-- there are as many bounds as lines to print
+abbrev pub IsPrintable : SheetParts → Judged → Type 0
+IsPrintable sheet (Accepted bounds) = length bounds ≡ length sheet.tasks
+IsPrintable sheet (Refused failed) = Unit {0}

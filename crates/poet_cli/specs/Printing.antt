@@ -1,0 +1,60 @@
+use Rattle.std.specs.Prelude.{ℕ, List, [], ◌∷◌, ◌++◌, Option, Some, None, codes, decimal, nat_le, if◌then◌else◌}
+use Rattle.task_sheet.specs.declared.tasks.Task.{Task}
+use Rattle.task_sheet.specs.SheetParts.{SheetParts}
+use Rattle.task_sheet.specs.Sheets.{task_at}
+use Rattle.conditions.specs.declared.failed.Cond.{Cond}
+use Rattle.conditions.specs.declared.failed.Cond.TheVariants.{K1, K3, K4, K5, K6, K7, K8, K9}
+use Rattle.conditions.specs.declared.failed.Failed.{Failed}
+use Rattle.poet_cli.specs.declared.judged.Judged.{Judged}
+use Rattle.poet_cli.specs.declared.judged.Judged.TheVariants.{Accepted, Refused}
+use Rattle.poet_cli.specs.Endings.{Output, Done, JudgedNo}
+
+-- whether a deadline is met
+abbrev pub met_word : ℕ → ℕ → List ℕ
+met_word bound deadline = if nat_le bound deadline then codes " met\n" else codes " missed\n"
+
+abbrev pub bound_front : Task → ℕ → List ℕ
+bound_front task bound = codes "task " ++ (task.name ++ (codes " bound " ++ decimal bound))
+
+abbrev pub bound_back : Task → ℕ → List ℕ
+bound_back task bound = codes " deadline " ++ (decimal task.deadline ++ met_word bound task.deadline)
+
+-- task NAME bound R deadline D met
+unfoldable pub bound_line : Task → ℕ → List ℕ
+bound_line task bound = bound_front task bound ++ bound_back task bound
+
+-- a line for each task and its bound
+abbrev pub bounds_text : List Task → List ℕ → List ℕ
+bounds_text [] bounds = []
+bounds_text (task ∷ tasks) [] = []
+bounds_text (task ∷ tasks) (bound ∷ bounds) = bound_line task bound ++ bounds_text tasks bounds
+
+unfoldable pub accepted_text : SheetParts → List ℕ → List ℕ
+accepted_text sheet bounds = codes "accepted\n" ++ bounds_text sheet.tasks bounds
+
+abbrev pub cond_text : Cond → List ℕ
+cond_text K1 = codes "refused K1"
+cond_text K3 = codes "refused K3"
+cond_text K4 = codes "refused K4"
+cond_text K5 = codes "refused K5"
+cond_text K6 = codes "refused K6"
+cond_text K7 = codes "refused K7"
+cond_text K8 = codes "refused K8"
+cond_text K9 = codes "refused K9"
+
+abbrev pub task_text : SheetParts → Option ℕ → List ℕ
+task_text sheet None = []
+task_text sheet (Some i) = codes " task " ++ (task_at sheet i).name
+
+abbrev pub point_text : Option ℕ → List ℕ
+point_text None = []
+point_text (Some a) = codes " point " ++ decimal a
+
+-- refused K6 task NAME point A
+unfoldable pub refused_text : SheetParts → Failed → List ℕ
+refused_text sheet failed = cond_text failed.cond ++ (task_text sheet failed.task ++ (point_text failed.point ++ codes "\n"))
+
+-- what is printed of a judgement
+abbrev pub output_of : SheetParts → Judged → Output
+output_of sheet (Accepted bounds) = Done (accepted_text sheet bounds)
+output_of sheet (Refused failed) = JudgedNo (refused_text sheet failed)

@@ -1,3 +1,5 @@
 pub mod Keys
 pub mod PolicyMeaning
 pub mod PolicyLaws
+pub mod Policies
+pub mod Lawful

@@ -1,0 +1,87 @@
+use Rattle.std.proofs.Common.{◌≡◌, ℕ, ◌+◌, ◌≤◌, Bool, true, false, cond, refl, sym, ap, subst, inl, inr, arith, leb, pos, ◌+ℤ◌, ◌-ℤ◌, ◌<ℤ◌}
+use Rattle.std.proofs.lemmas.Int.{ints}
+use Rattle.std.proofs.lemmas.Bool.{ltb-true}
+use Rattle.std.proofs.lemmas.Bool.Decides.{nat_tests}
+use Rattle.task_sheet.specs.SheetParts.{SheetParts}
+use Rattle.task_sheet.specs.Sheets.{task_at, IsValidSheet}
+use Rattle.policy.specs.declared.keys.Cap.TheVariants.{Nothing, All}
+use Rattle.policy.specs.declared.keys.Key.{Key}
+use Rattle.policy.specs.Keys.{key_le}
+use Rattle.policy.specs.PolicyLaws.{IsLawfulPolicy, Admits, GrowsTo, IsLimited}
+use Rattle.policy.specs.Policies.{fp_meaning, edf_meaning, fifo_meaning}
+
+same_cap : (b : Bool) → GrowsTo (cond b All Nothing) (cond b All Nothing)
+same_cap true = tt
+same_cap false = tt
+
+no_limit : (b : Bool) → IsLimited (cond b All Nothing)
+no_limit true = tt
+no_limit false = tt
+
+-- fixed priority keeps the laws
+pub fp_lawful : (sheet : SheetParts) → IsValidSheet sheet → IsLawfulPolicy fp_meaning sheet
+fp_lawful sheet ok = record {
+  own_class = λ i b. grind (arith, nat_tests);
+  higher_class = λ k j b c h. grind (arith, ints, nat_tests);
+  class_closed = λ i k j a b c h e. grind (arith, ints, nat_tests);
+  in_order = λ k j b c e h. let d = ap (λ (w : ℕ). (task_at sheet w).priority) e in grind (arith, ints);
+  capped = λ start a k j b c ne e h l.
+      let t : leb (task_at sheet j.task).priority (task_at sheet k.task).priority ≡ true = grind (arith, ints, nat_tests) in
+      subst (λ w. Admits (cond w All Nothing) start k.arrival) (sym t) tt;
+  blocks = λ start a k j b c ne e h l. grind (arith, ints, nat_tests);
+  cap_grows = λ i o a b c d ne h. same_cap (leb (task_at sheet i).priority (task_at sheet o).priority);
+  block_falls = λ i o a b c d ne h e. e;
+  cap_limited = λ i o a b c ne h. no_limit (leb (task_at sheet i).priority (task_at sheet o).priority);
+  cap_class = λ i o a b c ne e. ap (λ (w : Bool). cond w All Nothing) e;
+  outside_delays = λ i o b c e. grind (arith, nat_tests);
+  block_delays = λ i o a b c ne e. inl e;
+}
+
+-- a deadline in ticks, as a key
+abbrev edf_key : ℕ → Key
+edf_key d = record { high = pos d; low = pos 0 }
+
+no_later : (d e : ℕ) → key_le (edf_key d) (edf_key e) ≡ true → d ≤ e
+no_later d e h = grind (arith, ints)
+
+within : (b start a j own other : ℕ) → j ≡ start + a → b + other ≤ j + own → pos b <ℤ (pos start +ℤ (pos (a + 1 + own) -ℤ pos other))
+within b start a j own other e h = omega (arith, ints)
+
+-- earliest deadline first keeps the laws
+pub edf_lawful : (sheet : SheetParts) → IsValidSheet sheet → IsLawfulPolicy edf_meaning sheet
+edf_lawful sheet ok = record {
+  own_class = λ i b. refl;
+  higher_class = λ k j b c h. refl;
+  class_closed = λ i k j a b c h e. refl;
+  in_order = λ k j b c e h. let d = ap (λ (w : ℕ). (task_at sheet w).deadline) e in grind (arith, ints);
+  capped = λ start a k j b c ne e h l.
+      let own = (task_at sheet j.task).deadline in
+      let other = (task_at sheet k.task).deadline in
+      within k.arrival start a j.arrival own other e (no_later (k.arrival + other) (j.arrival + own) l);
+  blocks = λ start a k j b c ne e h l. grind (arith, ints, nat_tests);
+  cap_grows = λ i o a b c d ne h. grind (arith, ints);
+  block_falls = λ i o a b c d ne h e. grind (arith, nat_tests);
+  cap_limited = λ i o a b c ne h. let own : (task_at sheet i).deadline ≤ 1000000000 = (ok.each i b).deadline_high in omega (arith, ints);
+  cap_class = λ i o a b c ne e. absurd (cc);
+  outside_delays = λ i o b c e. absurd (cc);
+  block_delays = λ i o a b c ne e.
+      let later = ltb-true ((task_at sheet i).deadline + a) (task_at sheet o).deadline e in
+      inr (omega (arith, ints));
+}
+
+-- first in, first out keeps the laws
+pub fifo_lawful : (sheet : SheetParts) → IsValidSheet sheet → IsLawfulPolicy fifo_meaning sheet
+fifo_lawful sheet ok = record {
+  own_class = λ i b. refl;
+  higher_class = λ k j b c h. refl;
+  class_closed = λ i k j a b c h e. refl;
+  in_order = λ k j b c e h. grind (arith, ints);
+  capped = λ start a k j b c ne e h l. grind (arith, ints);
+  blocks = λ start a k j b c ne e h l. grind (arith, ints, nat_tests);
+  cap_grows = λ i o a b c d ne h. grind (arith, ints);
+  block_falls = λ i o a b c d ne h e. e;
+  cap_limited = λ i o a b c ne h. omega (arith, ints);
+  cap_class = λ i o a b c ne e. absurd (cc);
+  outside_delays = λ i o b c e. absurd (cc);
+  block_delays = λ i o a b c ne e. absurd (cc);
+}

@@ -62,9 +62,14 @@ fn task_failed<P: Policy, M: Preemption, S: Supply>(
     requires served { Serves M.cuts sheet.now }
     ensures { result ≡ task_failed_of P.meaning M.cuts (S.sbf supply.now) sheet.now deadlines i entry.now }
 {
-    if let Some(cond) =
-        entry_failed::<P, M, S>(sheet, supply, i, entry.window, entry.bound, deadlines)
-    {
+    if let Some(cond) = entry_failed::<P, M, S>(
+        sheet,
+        supply,
+        i,
+        entry.window,
+        entry.bound,
+        deadlines,
+    ) {
         return Some(Failed::of_task(i, cond));
     }
     points_failed::<P, M, S>(
@@ -99,9 +104,7 @@ pub fn first_failed<P: Policy, M: Preemption, S: Supply>(
         });
     }
     for i in 0..tasks {
-        if let Some(failed) =
-            task_failed::<P, M, S>(sheet, supply, i, entry(cert, i), deadlines)
-        {
+        if let Some(failed) = task_failed::<P, M, S>(sheet, supply, i, entry(cert, i), deadlines) {
             return Some(failed);
         }
     }

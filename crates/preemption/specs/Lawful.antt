@@ -10,7 +10,6 @@ use Rattle.task_sheet.specs.declared.tasks.Job.{Job}
 use Rattle.task_sheet.specs.Rules.{is_positive}
 use Rattle.task_sheet.specs.Sheets.{CutFits, IsTask}
 use Rattle.preemption.specs.Cuts.{is_prefix_sum, greatest, last_of, each_within, all_within, cuttable_by, longest_by, threshold_by, segments_fit}
-use Rattle.preemption.specs.CutMeaning.{CutMeaning}
 use Rattle.preemption.specs.CutLaws.{IsLawfulCut}
 use Rattle.preemption.specs.Kinds.{is_full, is_never, is_fixed, is_floating, segments_of, bound_of, by_cut, full_meaning, never_meaning, fixed_meaning, floating_meaning, per_task_meaning}
 use Rattle.preemption.specs.Segments.{HasNextSum, or_left, or_right, prefix_zero, next_sum, last_within, prefix_leaves_last, greatest_within, greatest_all, greatest_sum, greatest_some, last_some}

@@ -27,15 +27,6 @@ fn fixed_cut(alloc: Global) -> Result<Cut, Fail> {
     Ok(Cut::Fixed(Items::new(vec![in alloc; 2, 3]?)))
 }
 
-fn make_job(alloc: Global, cost: u64, segs: &[u64]) -> Result<Job, Fail> {
-    Ok(Job {
-        task: 0,
-        arrival: 0,
-        cost,
-        segs: Items::new(segs.to_vec(alloc)?),
-    })
-}
-
 /// The longest segment and the threshold.
 fn task_row(alloc: Global, cut: Cut) -> Result<Option<(u64, u64)>, Fail> {
     let tasks = vec![in alloc; make_task(alloc, cut)?]?;
@@ -47,12 +38,28 @@ fn task_row(alloc: Global, cut: Cut) -> Result<Option<(u64, u64)>, Fail> {
     Ok(Some((PerTask::longest(task), PerTask::threshold(task))))
 }
 
-/// Asserts at which services up to 5 a job can be cut, and whether it fits.
-fn assert_row<M: Preemption>(rt: &impl Abort, task: &Task, job: &Job, cuts: [bool; 6], fits: bool) {
+/// Asserts at which services up to 5 a job of the cost and segments can be cut, and whether it fits.
+fn assert_row<M: Preemption>(
+    rt: &impl Abort,
+    alloc: Global,
+    cut: Cut,
+    (cost, segs): (u64, &[u64]),
+    cuts: [bool; 6],
+    fits: bool,
+) -> Result<(), Fail> {
+    let task = make_task(alloc, cut)?;
+    let segs = Items::new(segs.to_vec(alloc)?);
+    let job = Job {
+        task: 0,
+        arrival: 0,
+        cost,
+        segs,
+    };
     for s in 0..6 {
-        assert_eq!(rt; M::cuttable(task, job, s), cuts[s as usize], "at {s}");
+        assert_eq!(rt; M::cuttable(&task, &job, s), cuts[s as usize], "at {s}");
     }
-    assert_eq!(rt; M::fits(task, job), fits);
+    assert_eq!(rt; M::fits(&task, &job), fits);
+    Ok(())
 }
 
 #[test]
@@ -80,28 +87,41 @@ fn tasks(rt: HostRuntime) -> Result<(), Fail> {
 }
 
 #[test]
-fn jobs(rt: HostRuntime) -> Result<(), Fail> {
+fn whole_jobs(rt: HostRuntime) -> Result<(), Fail> {
     let alloc = rt.alloc();
-    let full = make_task(alloc, Cut::Full)?;
-    let never = make_task(alloc, Cut::Never)?;
-    let fixed = make_task(alloc, fixed_cut(alloc)?)?;
-    let floating = make_task(alloc, Cut::Floating(3))?;
-    let whole = make_job(alloc, 5, &[])?;
-    let parts = make_job(alloc, 5, &[2, 3])?;
-    let short = make_job(alloc, 3, &[0, 3])?;
-    let many = make_job(alloc, 5, &[2, 2, 1])?;
-    let over = make_job(alloc, 4, &[u64::MAX, 5])?;
-    assert_row::<FullCut>(&rt, &full, &whole, [T, T, T, T, T, T], T);
-    assert_row::<PerTask>(&rt, &full, &parts, [T, T, T, T, T, T], F);
-    assert_row::<NeverCut>(&rt, &never, &whole, [T, F, F, F, F, T], T);
-    assert_row::<PerTask>(&rt, &never, &short, [T, F, F, T, T, T], F);
-    assert_row::<FixedCut>(&rt, &fixed, &parts, [T, F, T, F, F, T], T);
-    assert_row::<PerTask>(&rt, &fixed, &short, [T, F, F, T, T, T], T);
-    assert_row::<PerTask>(&rt, &fixed, &many, [T, F, T, F, T, T], F);
-    assert_row::<PerTask>(&rt, &fixed, &over, [T, F, F, F, T, T], F);
-    assert_row::<FloatingCut>(&rt, &floating, &parts, [T, F, T, F, F, T], T);
-    assert_row::<PerTask>(&rt, &floating, &many, [T, F, T, F, T, T], T);
-    assert_row::<PerTask>(&rt, &floating, &short, [T, F, F, T, T, T], F);
-    assert_row::<PerTask>(&rt, &floating, &over, [T, F, F, F, T, T], F);
+    let whole = (5, [].as_slice());
+    let parts = (3, [0, 3].as_slice());
+    assert_row::<FullCut>(&rt, alloc, Cut::Full, whole, [T, T, T, T, T, T], T)?;
+    assert_row::<PerTask>(&rt, alloc, Cut::Full, parts, [T, T, T, T, T, T], F)?;
+    assert_row::<NeverCut>(&rt, alloc, Cut::Never, whole, [T, F, F, F, F, T], T)?;
+    assert_row::<PerTask>(&rt, alloc, Cut::Never, parts, [T, F, F, T, T, T], F)?;
+    Ok(())
+}
+
+#[test]
+fn fixed_jobs(rt: HostRuntime) -> Result<(), Fail> {
+    let alloc = rt.alloc();
+    let parts = (5, [2, 3].as_slice());
+    let short = (3, [0, 3].as_slice());
+    let many = (5, [2, 2, 1].as_slice());
+    let over = (4, [u64::MAX, 5].as_slice());
+    assert_row::<FixedCut>(&rt, alloc, fixed_cut(alloc)?, parts, [T, F, T, F, F, T], T)?;
+    assert_row::<PerTask>(&rt, alloc, fixed_cut(alloc)?, short, [T, F, F, T, T, T], T)?;
+    assert_row::<PerTask>(&rt, alloc, fixed_cut(alloc)?, many, [T, F, T, F, T, T], F)?;
+    assert_row::<PerTask>(&rt, alloc, fixed_cut(alloc)?, over, [T, F, F, F, T, T], F)?;
+    Ok(())
+}
+
+#[test]
+fn floating_jobs(rt: HostRuntime) -> Result<(), Fail> {
+    let alloc = rt.alloc();
+    let parts = (5, [2, 3].as_slice());
+    let short = (3, [0, 3].as_slice());
+    let many = (5, [2, 2, 1].as_slice());
+    let over = (4, [u64::MAX, 5].as_slice());
+    assert_row::<FloatingCut>(&rt, alloc, Cut::Floating(3), parts, [T, F, T, F, F, T], T)?;
+    assert_row::<PerTask>(&rt, alloc, Cut::Floating(3), many, [T, F, T, F, T, T], T)?;
+    assert_row::<PerTask>(&rt, alloc, Cut::Floating(3), short, [T, F, F, T, T, T], F)?;
+    assert_row::<PerTask>(&rt, alloc, Cut::Floating(3), over, [T, F, F, F, T, T], F)?;
     Ok(())
 }

@@ -1,5 +1,5 @@
-use Rattle.std.proofs.Common.{◌≡◌, ◌==◌, drop, max, sum}
-use Rattle.preemption.specs.Cuts.{is_prefix_sum, greatest, last_of, each_within, all_within}
+use Rattle.std.proofs.Common.{◌≡◌, drop}
+use Rattle.preemption.specs.Cuts.{is_prefix_sum}
 use Rattle.preemption.proofs.segments.is_prefix_sum.Given as goal
 
 abbrev pub invariant-loop-segment : goal.invariant-loop-segment

@@ -1,4 +1,4 @@
-use Rattle.std.proofs.Common.{◌≡◌, ℕ, ◌+◌, ◌<◌, ◌≤◌, ◌^◌, true, zero, suc, List, [], ◌∷◌, ◌++◌, length, get_or, map, max, String, Global, string_bytes, nat_cmp, Ordering, Less, Equal, Greater, refl, arith}
+use Rattle.std.proofs.Common.{◌≡◌, ℕ, ◌<◌, ◌≤◌, ◌^◌, true, zero, suc, List, [], ◌∷◌, length, get_or, map, String, Global, string_bytes, nat_cmp, Ordering, Less, Equal, Greater, refl, arith}
 use Rattle.std.specs.Ordering.{match_ordering}
 use Rattle.std.specs.Cmp.Lexicographic.{slice_cmp}
 use Rattle.std.specs.String.{string_cmp}
@@ -6,7 +6,7 @@ use Rattle.std.specs.BTreeMap.{insert_entry}
 use Rattle.std.specs.List.{list_all}
 use Rattle.std.proofs.lemmas.Bool.{and_parts}
 use Rattle.toml.specs.declared.value.Value.{Value}
-use Rattle.toml.specs.Data.{Data, string, table, array, Members, no_members, member, members_depth, items_depth, depth}
+use Rattle.toml.specs.Data.{members_depth, items_depth, depth}
 use Rattle.toml.specs.View.{view, items_of, members_view}
 use Rattle.curve.specs.declared.prefix.Step.{Step}
 use Rattle.curve.specs.Validity.{is_step}
@@ -17,9 +17,8 @@ use Rattle.task_sheet.specs.declared.tasks.Cut.{Cut}
 use Rattle.task_sheet.specs.declared.tasks.Cut.TheVariants.{Full, Never, Fixed, Floating}
 use Rattle.task_sheet.specs.declared.tasks.Task.{Task}
 use Rattle.task_sheet.specs.Rules.{is_positive, are_positive}
-use Rattle.task_sheet.specs.SheetParts.{SheetParts}
 use Rattle.task_sheet.proofs.RuleFacts.{positive_high}
-use Rattle.sheet_text.specs.Printed.{put, array_data, number_data, step_data, cut_data, task_data, put_promise, sheet_data}
+use Rattle.sheet_text.specs.Printed.{put, number_data, step_data, cut_data, task_data, sheet_data}
 
 abbrev pub MapEntry : Type 0
 MapEntry = String Global × Value

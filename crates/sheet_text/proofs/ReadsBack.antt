@@ -1,15 +1,14 @@
 -- What is printed reads again.
-use Rattle.std.proofs.Common.{◌≡◌, ℕ, ◌+◌, ◌<◌, ◌≤◌, true, zero, suc, List, [], ◌∷◌, ◌++◌, length, length-append, get_or, map, refl, ap, ◌∙◌, arith, append_assoc, Option, Some, Result, Ok}
-use Rattle.std.specs.List.{list_all}
-use Rattle.std.proofs.lemmas.Bool.{and_parts, and_from, le-leb, eq-eqb, lt-ltb}
+use Rattle.std.proofs.Common.{◌≡◌, ℕ, ◌+◌, ◌<◌, ◌≤◌, true, suc, List, [], ◌∷◌, ◌++◌, length, length-append, get_or, map, refl, ◌∙◌, arith, append_assoc, Some, Ok}
+use Rattle.std.proofs.lemmas.Bool.{and_from, le-leb, eq-eqb, lt-ltb}
 use Rattle.std.proofs.lemmas.List.{append-nil, map_push}
 use Rattle.toml.specs.Text.{are_tables}
-use Rattle.toml.specs.Data.{Data, string, integer, table, array, get}
+use Rattle.toml.specs.Data.{string, table}
 use Rattle.toml.specs.View.{items_of}
 use Rattle.lists.specs.Ranges.{is_between}
 use Rattle.curve.specs.declared.prefix.Step.{Step}
 use Rattle.curve.specs.CurveValue.{Curve}
-use Rattle.curve.specs.Validity.{is_step, are_in_range, starts_at_one, rise_from, last_time, check_of as curve_check, StartsAtOne, RiseFrom, IsCurve}
+use Rattle.curve.specs.Validity.{starts_at_one, rise_from, last_time, check_of as curve_check, StartsAtOne, RiseFrom, IsCurve}
 use Rattle.task_sheet.specs.declared.tasks.PolicyKind.{PolicyKind}
 use Rattle.task_sheet.specs.declared.tasks.PolicyKind.TheVariants.{Fp, Edf, Fifo}
 use Rattle.task_sheet.specs.declared.tasks.SupplySpec.{SupplySpec}
@@ -19,15 +18,14 @@ use Rattle.task_sheet.specs.declared.tasks.Cut.TheVariants.{Full, Never, Fixed, 
 use Rattle.task_sheet.specs.declared.tasks.Task.{Task}
 use Rattle.task_sheet.specs.declared.refusal.Place.{Place}
 use Rattle.task_sheet.specs.SheetParts.{SheetParts}
-use Rattle.task_sheet.specs.Refusing.{◌>>=◌}
-use Rattle.task_sheet.specs.Rules.{is_positive, supply_rule, cut_rule, task_rule, tasks_rule, check_of}
-use Rattle.task_sheet.specs.Sheets.{parts_of, no_task, IsTask, IsValidSheet}
+use Rattle.task_sheet.specs.Rules.{is_positive, supply_rule, cut_rule, task_rule, tasks_rule}
+use Rattle.task_sheet.specs.Sheets.{parts_of, no_task, IsValidSheet}
 use Rattle.task_sheet.proofs.RuleFacts.{both_hold, holds_means, positive_from, positive_high, cut_passes, promise_passes, task_means, tasks_from_valid}
 use Rattle.sheet_text.specs.Documents.{number_of, all_of, count_of}
-use Rattle.sheet_text.specs.SupplyRows.{promised_rule, supplied_rule}
+use Rattle.sheet_text.specs.SupplyRows.{promised_rule}
 use Rattle.sheet_text.specs.CurveRows.{step_of, curve_rule}
 use Rattle.sheet_text.specs.CutRows.{segmented_rule, preemption_rule}
-use Rattle.sheet_text.specs.TaskRows.{name_rule, priority_rule, names_of, task_of, tasks_after}
+use Rattle.sheet_text.specs.TaskRows.{name_rule, names_of, task_of, tasks_after}
 use Rattle.sheet_text.specs.SheetRows.{policy_rule, sheet_of}
 use Rattle.sheet_text.specs.Printed.{number_data, step_data, curve_data, cut_data, task_data, policy_word, promise_data, sheet_data}
 

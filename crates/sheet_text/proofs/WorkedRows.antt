@@ -1,14 +1,14 @@
 -- Texts whose sheet, or whose first broken rule, is known.
-use Rattle.std.proofs.Common.{◌≡◌, ℕ, List, [], ◌∷◌, ◌++◌, codes, Result, Ok, Err, refl}
+use Rattle.std.proofs.Common.{◌≡◌, ℕ, List, [], ◌∷◌, ◌++◌, codes, Ok, Err, refl}
 use lib.Utf8.{encode}
 use Rattle.std.specs.Str.{is_utf8, chars}
 use Rattle.toml.proofs.OnLiterals.{toml_on_literals}
 use Rattle.task_sheet.specs.declared.tasks.PolicyKind.TheVariants.{Fp}
 use Rattle.task_sheet.specs.declared.tasks.SupplySpec.TheVariants.{Unit as Whole}
-use Rattle.task_sheet.specs.declared.tasks.Cut.TheVariants.{Full, Floating}
+use Rattle.task_sheet.specs.declared.tasks.Cut.TheVariants.{Floating}
 use Rattle.task_sheet.specs.declared.refusal.Place.TheVariants as places
 use Rattle.task_sheet.specs.declared.refusal.Field.TheVariants as fields
-use Rattle.task_sheet.specs.declared.refusal.SheetRefusal.TheVariants.{Text, Unknown, Missing, Kind, Range, Order, Both, Twice, Sum}
+use Rattle.task_sheet.specs.declared.refusal.SheetRefusal.TheVariants.{Text, Missing, Kind, Range, Order, Both, Twice, Sum}
 use Rattle.sheet_text.specs.SupplyRows.{promised_rule}
 use Rattle.sheet_text.specs.CurveRows.{curve_rule, periodic}
 use Rattle.sheet_text.specs.CutRows.{segmented_rule}

@@ -1,4 +1,3 @@
-use Rattle.std.proofs.Common.{◌≡◌}
 use Rattle.std.specs.Prelude.{bytes_eq}
 use Rattle.sheet_text.proofs.Counts.{list_any-map}
 use Rattle.sheet_text.proofs.document.is_among.Goals as goal

@@ -1,4 +1,3 @@
-use Rattle.std.proofs.Common.{◌≡◌}
 use Rattle.sheet_text.proofs.PrintedFacts.{number_fits}
 use Rattle.sheet_text.proofs.printing.numbers.Goals as goal
 

@@ -1,4 +1,4 @@
-use Rattle.std.proofs.Common.{◌≡◌, ◌≤◌, rules, string_bytes, true, Some, Ok}
+use Rattle.std.proofs.Common.{◌≡◌, ◌≤◌, rules, string_bytes, true, Some}
 use Rattle.std.proofs.lemmas.Str.{is_utf8-from_IsUtf8, IsUtf8-string_bytes}
 use Rattle.std.specs.Str.{is_utf8}
 use Rattle.toml.specs.Data.{members_depth}

@@ -1,4 +1,3 @@
-use Rattle.std.proofs.Common.{◌≡◌}
 use Rattle.sheet_text.proofs.PrintedFacts.{put_entry}
 use Rattle.sheet_text.proofs.printing.put.Goals as goal
 

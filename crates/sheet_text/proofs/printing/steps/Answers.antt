@@ -1,4 +1,3 @@
-use Rattle.std.proofs.Common.{◌≡◌}
 use Rattle.sheet_text.proofs.PrintedFacts.{step_at}
 use Rattle.sheet_text.proofs.printing.steps.Goals as goal
 

@@ -1,4 +1,4 @@
-use Rattle.std.proofs.Common.{◌≡◌, ◌≤◌, length, arith}
+use Rattle.std.proofs.Common.{◌≤◌, length, arith}
 use Rattle.task_sheet.proofs.RuleFacts.{valid_from_rules}
 use Rattle.sheet_text.proofs.reading.sheet_of.Goals as goal
 

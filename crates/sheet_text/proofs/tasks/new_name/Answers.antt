@@ -1,4 +1,4 @@
-use Rattle.std.proofs.Common.{◌≡◌, arith}
+use Rattle.std.proofs.Common.{arith}
 use Rattle.std.proofs.lemmas.Grind.{common_steps}
 use Rattle.sheet_text.specs.TaskRows.{name_rule}
 use Rattle.sheet_text.proofs.Counts.{name_among}

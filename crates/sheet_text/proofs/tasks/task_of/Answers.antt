@@ -1,4 +1,4 @@
-use Rattle.std.proofs.Common.{◌≡◌, true, false, map, sym, ◌∙◌, string_bytes}
+use Rattle.std.proofs.Common.{◌≡◌, true, false, map, ◌∙◌, string_bytes}
 use Rattle.std.specs.Prelude.{bytes_eq}
 use Rattle.std.specs.List.{list_any}
 use Rattle.task_sheet.specs.Rules.{is_name}

@@ -1,4 +1,3 @@
-use Rattle.std.proofs.Common.{◌≡◌}
 use Rattle.sheet_text.proofs.Loop.{Stands}
 use Rattle.sheet_text.proofs.tasks.tasks_of.Given as goal
 

@@ -36,3 +36,6 @@ fn main(rt: HostRuntime) -> ExitCode {
         }),
     }
 }
+
+#[cfg(test)]
+mod tests;

@@ -13,6 +13,7 @@ use Rattle.task_sheet.specs.declared.refusal.SheetRefusal.TheVariants.{Missing, 
 use Rattle.task_sheet.specs.Refusing.{◌>>=◌, present}
 use Rattle.sheet_text.specs.Documents.{keys_rule, needed_rule, table_rule, whole_rule, positive_rule, number_of, all_in}
 
+-- the step of a time and a value
 abbrev pub step_from : Option ℕ → Option ℕ → Option Step
 step_from (Some time) (Some value) = Some (record { time = time; value = value })
 step_from _ _ = None
@@ -30,6 +31,7 @@ curve_refusal place First = Order place fields.CurveSteps
 curve_refusal place Falls = Order place fields.CurveSteps
 curve_refusal place Past = Order place fields.CurveSteps
 
+-- the curve, or the sheet's refusal of it
 abbrev pub tested : Place → Result Curve CurveRefusal → Result Curve SheetRefusal
 tested place (Ok c) = Ok c
 tested place (Err e) = Err (curve_refusal place e)
@@ -40,6 +42,7 @@ steps_rule place horizon d =
     present (all_in step_of d) (Kind place fields.CurveSteps)
     >>= (λ steps. tested place (check_of horizon steps))
 
+-- the keys of a curve
 abbrev pub curve_keys : List (List ℕ)
 curve_keys = codes "horizon" ∷ codes "steps" ∷ []
 
@@ -56,6 +59,7 @@ curve_rule place d = do
 abbrev pub periodic : ℕ → Curve
 periodic period = record { horizon = period; steps = record { time = 1; value = 1 } ∷ [] }
 
+-- a period is the curve of one job in each
 abbrev pub period_rule : Place → Data → Result Curve SheetRefusal
 period_rule place d = whole_rule place fields.Period 1 1000000000 d >>= (λ period. Ok (periodic period))
 

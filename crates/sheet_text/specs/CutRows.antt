@@ -18,6 +18,7 @@ word_rule place word =
     else if bytes_eq word (codes "never") then Ok Never
     else Err (Range place fields.Preemption)
 
+-- the keys of preemption as a table
 abbrev pub cut_keys : List (List ℕ)
 cut_keys = codes "fixed" ∷ codes "floating" ∷ []
 

@@ -19,6 +19,7 @@ abbrev pub has_only : List (List ℕ) → Members → Bool
 has_only keys no_members = true
 has_only keys (member k d ms) = list_any (λ known. bytes_eq known k) keys && has_only keys ms
 
+-- where the data is a table, each key is one of these
 abbrev pub knows_only : List (List ℕ) → Data → Bool
 knows_only keys (table ms) = has_only keys ms
 knows_only keys _ = true
@@ -31,6 +32,7 @@ keys_rule keys place d = holds (knows_only keys d) (Unknown place)
 abbrev pub needed_rule : List ℕ → Place → Field → Data → Result Data SheetRefusal
 needed_rule key place field d = present (get key d) (Missing place field)
 
+-- what has to be a table
 abbrev pub table_rule : Place → Field → Data → Result (Unit {0}) SheetRefusal
 table_rule place field d = holds (is_some (as_table d)) (Kind place field)
 
@@ -53,6 +55,7 @@ natural (negsuc n) = 0
 abbrev pub number_of : Data → Option ℕ
 number_of d = option_map natural (as_integer d)
 
+-- one more at the front, if each is there
 abbrev pub put_first : {X : Type 0} → Option X → Option (List X) → Option (List X)
 put_first (Some x) (Some xs) = Some (x ∷ xs)
 put_first _ _ = None
@@ -67,6 +70,7 @@ abbrev pub all_in : {X : Type 0} → (Data → Option X) → Data → Option (Li
 all_in read (array ds) = all_of read ds
 all_in read _ = None
 
+-- how many items there are
 abbrev pub count_of : Items → ℕ
 count_of no_items = 0
 count_of (item d ds) = 1 + count_of ds

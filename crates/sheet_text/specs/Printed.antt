@@ -20,6 +20,7 @@ abbrev pub put : List ℕ → Data → Members → Members
 put k d no_members = member k d no_members
 put k d (member l e ms) = match_ordering (slice_cmp nat_cmp k l) (member k d (member l e ms)) (member l d ms) (member l e (put k d ms))
 
+-- what a list, a number, a step and so on are printed as
 abbrev pub array_data : {X : Type 0} → (X → Data) → List X → Data
 array_data show xs = array (items_of (map show xs))
 
@@ -60,6 +61,7 @@ abbrev pub put_promise : SupplySpec → Members → Members
 put_promise Whole ms = ms
 put_promise (Promised horizon times) ms = put (codes "supply") (promise_data horizon times) ms
 
+-- the members of a sheet's document
 abbrev pub sheet_data : SheetParts → Members
 sheet_data s =
     put_promise s.supply

@@ -14,9 +14,11 @@ use Rattle.sheet_text.specs.Documents.{document_of, keys_rule, needed_rule, coun
 use Rattle.sheet_text.specs.SupplyRows.{supplied_rule}
 use Rattle.sheet_text.specs.TaskRows.{tasks_after}
 
+-- the keys of a sheet
 abbrev pub sheet_keys : List (List ℕ)
 sheet_keys = codes "policy" ∷ codes "supply" ∷ codes "task" ∷ []
 
+-- the policy of a word
 abbrev pub policy_named : List ℕ → Option PolicyKind
 policy_named word =
     if bytes_eq word (codes "fp") then Some Fp
@@ -24,6 +26,7 @@ policy_named word =
     else if bytes_eq word (codes "fifo") then Some Fifo
     else None
 
+-- a policy is a word of these
 abbrev pub policy_rule : Data → Result PolicyKind SheetRefusal
 policy_rule (string word) = present (policy_named word) (Range places.Top fields.Policy)
 policy_rule _ = Err (Kind places.Top fields.Policy)

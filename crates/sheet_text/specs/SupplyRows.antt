@@ -10,6 +10,7 @@ use Rattle.task_sheet.specs.Refusing.{◌>>=◌, present}
 use Rattle.task_sheet.specs.Rules.{supply_rule}
 use Rattle.sheet_text.specs.Documents.{keys_rule, needed_rule, table_rule, positive_rule, number_of, all_in}
 
+-- the keys of a supply
 abbrev pub supply_keys : List (List ℕ)
 supply_keys = codes "horizon" ∷ codes "times" ∷ []
 

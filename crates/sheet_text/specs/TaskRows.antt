@@ -15,6 +15,7 @@ use Rattle.sheet_text.specs.Documents.{keys_rule, needed_rule, whole_rule, posit
 use Rattle.sheet_text.specs.CurveRows.{arrivals_rule}
 use Rattle.sheet_text.specs.CutRows.{preemption_rule}
 
+-- the keys of a task
 abbrev pub task_keys : List (List ℕ)
 task_keys = codes "name" ∷ codes "cost" ∷ codes "deadline" ∷ codes "priority" ∷ codes "period" ∷ codes "curve" ∷ codes "preemption" ∷ []
 
@@ -32,6 +33,7 @@ unsaid_priority Fp place = Err (Missing place fields.Priority)
 unsaid_priority Edf place = Ok 0
 unsaid_priority Fifo place = Ok 0
 
+-- a priority, where 0 is one, or none
 abbrev pub priority_rule : PolicyKind → Place → Option Data → Result ℕ SheetRefusal
 priority_rule policy place (Some d) = whole_rule place fields.Priority 0 1000000000 d
 priority_rule policy place None = unsaid_priority policy place
@@ -49,6 +51,7 @@ task_of policy n names d = do
   its_cut ← preemption_rule n its_cost (get (codes "preemption") d)
   Ok (record { name = its_name; cost = its_cost; deadline = its_deadline; priority = its_priority; curve = its_curve; cut = its_cut })
 
+-- the names of some tasks
 abbrev pub names_of : List Task → List (List ℕ)
 names_of tasks = map (λ t. t.name) tasks
 

@@ -21,41 +21,41 @@ fn put(alloc: Global, table: &mut Table, key: &str, value: Value) -> Result<(), 
     Ok(())
 }
 
-fn number(n: u64) -> Value
+fn number_value(n: u64) -> Value
     requires { n < 2 ^ 63 }
     ensures { view result ≡ number_data n }
 {
     Value::Integer(n as i64)
 }
 
-fn numbers(alloc: Global, numbers: &[u64]) -> Result<Value, AllocError>
+fn numbers_value(alloc: Global, numbers: &[u64]) -> Result<Value, AllocError>
     requires { are_positive 1000 numbers.now ≡ true }
     ensures { IfOk result (λ v. view v ≡ array_data number_data numbers.now) }
 {
     let mut values = Vec::new(alloc);
     'numbers: for n in numbers {
-        values.push(number(*n))?;
+        values.push(number_value(*n))?;
     }
     Ok(Value::Array(values))
 }
 
-fn step(alloc: Global, step: &Step) -> Result<Value, AllocError>
+fn step_value(alloc: Global, step: &Step) -> Result<Value, AllocError>
     requires { is_step step.now ≡ true }
     ensures { IfOk result (λ v. view v ≡ step_data step.now) }
 {
     let mut pair = Vec::new(alloc);
-    pair.push(number(step.time))?;
-    pair.push(number(step.value))?;
+    pair.push(number_value(step.time))?;
+    pair.push(number_value(step.value))?;
     Ok(Value::Array(pair))
 }
 
-fn steps(alloc: Global, steps: &[Step]) -> Result<Value, AllocError>
+fn steps_value(alloc: Global, steps: &[Step]) -> Result<Value, AllocError>
     requires { list_all is_step steps.now ≡ true }
     ensures { IfOk result (λ v. view v ≡ array_data step_data steps.now) }
 {
     let mut values = Vec::new(alloc);
-    'steps: for each in steps {
-        values.push(step(alloc, each)?)?;
+    'steps: for step in steps {
+        values.push(step_value(alloc, step)?)?;
     }
     Ok(Value::Array(values))
 }
@@ -64,8 +64,13 @@ fn curve_value(alloc: Global, curve: &Prefix) -> Result<Value, AllocError>
     ensures { IfOk result (λ v. view v ≡ curve_data curve.now) }
 {
     let mut table = Table::new(alloc);
-    put(alloc, &mut table, "horizon", number(curve.horizon()))?;
-    put(alloc, &mut table, "steps", steps(alloc, curve.steps())?)?;
+    put(alloc, &mut table, "horizon", number_value(curve.horizon()))?;
+    put(
+        alloc,
+        &mut table,
+        "steps",
+        steps_value(alloc, curve.steps())?,
+    )?;
     Ok(Value::Table(table))
 }
 
@@ -85,8 +90,8 @@ fn cut_value(alloc: Global, task: &Task) -> Result<Value, AllocError>
     match &task.cut {
         Cut::Full => Value::string(alloc, "full"),
         Cut::Never => Value::string(alloc, "never"),
-        Cut::Fixed(segments) => single(alloc, "fixed", numbers(alloc, segments.as_slice())?),
-        Cut::Floating(longest) => single(alloc, "floating", number(*longest)),
+        Cut::Fixed(segments) => single(alloc, "fixed", numbers_value(alloc, segments.as_slice())?),
+        Cut::Floating(longest) => single(alloc, "floating", number_value(*longest)),
     }
 }
 
@@ -101,15 +106,15 @@ fn task_value(alloc: Global, task: &Task) -> Result<Value, AllocError>
         "name",
         Value::string(alloc, task.name.as_str())?,
     )?;
-    put(alloc, &mut table, "cost", number(task.cost))?;
-    put(alloc, &mut table, "deadline", number(task.deadline))?;
-    put(alloc, &mut table, "priority", number(task.priority))?;
+    put(alloc, &mut table, "cost", number_value(task.cost))?;
+    put(alloc, &mut table, "deadline", number_value(task.deadline))?;
+    put(alloc, &mut table, "priority", number_value(task.priority))?;
     put(alloc, &mut table, "curve", curve_value(alloc, &task.curve)?)?;
     put(alloc, &mut table, "preemption", cut_value(alloc, task)?)?;
     Ok(Value::Table(table))
 }
 
-fn task_values(alloc: Global, sheet: &Sheet) -> Result<Value, AllocError>
+fn tasks_value(alloc: Global, sheet: &Sheet) -> Result<Value, AllocError>
     ensures { IfOk result (λ v. view v ≡ array_data task_data sheet.now.tasks) }
 {
     let mut values = Vec::new(alloc);
@@ -125,8 +130,8 @@ fn promise_value(alloc: Global, horizon: u64, times: &[u64]) -> Result<Value, Al
     ensures { IfOk result (λ v. view v ≡ promise_data horizon times.now) }
 {
     let mut table = Table::new(alloc);
-    put(alloc, &mut table, "horizon", number(horizon))?;
-    put(alloc, &mut table, "times", numbers(alloc, times)?)?;
+    put(alloc, &mut table, "horizon", number_value(horizon))?;
+    put(alloc, &mut table, "times", numbers_value(alloc, times)?)?;
     Ok(Value::Table(table))
 }
 
@@ -167,7 +172,7 @@ fn sheet_table(alloc: Global, sheet: &Sheet) -> Result<Table, AllocError>
         "policy",
         Value::string(alloc, policy_word(sheet.policy()))?,
     )?;
-    put(alloc, &mut table, "task", task_values(alloc, sheet)?)?;
+    put(alloc, &mut table, "task", tasks_value(alloc, sheet)?)?;
     put_promise(alloc, &mut table, sheet.supply())?;
     Ok(table)
 }

@@ -1,6 +1,5 @@
 use crate::{print_sheet, read_sheet};
 use std::alloc::{AllocError, Global};
-use std::process::Abort;
 use std::test::Fail;
 use task_sheet::{Field, Place, SheetRefusal};
 
@@ -28,130 +27,106 @@ fn refusal_of(alloc: Global, bytes: &[u8]) -> Option<SheetRefusal> {
     }
 }
 
-fn missing(place: Place, field: Field) -> Option<SheetRefusal> {
-    Some(SheetRefusal::Missing { place, field })
-}
-
-fn out_of_range(place: Place, field: Field) -> Option<SheetRefusal> {
-    Some(SheetRefusal::Range { place, field })
-}
-
-/// A sheet of one task with these lines.
-fn with_lines(alloc: Global, lines: &str) -> Result<String, AllocError> {
-    let mut text = String::from_str(alloc, "policy = \"edf\"\n[[task]]\nname = \"a\"\n")?;
-    text.push_str(lines)?;
+/// A text with so many of these pieces after its front.
+fn with_pieces(alloc: Global, front: &str, piece: &str, count: u32) -> Result<String, AllocError> {
+    let mut text = String::from_str(alloc, front)?;
+    for _ in 0..count {
+        text.push_str(piece)?;
+    }
     Ok(text)
-}
-
-fn refuses_lines(
-    rt: &impl Abort,
-    alloc: Global,
-    lines: &str,
-    refusal: SheetRefusal,
-) -> Result<(), AllocError> {
-    let text = with_lines(alloc, lines)?;
-    assert_eq!(rt;
-        refusal_of(alloc, text.as_bytes()),
-        Some(refusal),
-        "at {lines}"
-    );
-    Ok(())
 }
 
 #[test]
 fn refused_sheets(rt: HostRuntime) -> Result<(), Fail> {
     let alloc = rt.alloc();
+    let many = with_pieces(alloc, "policy = \"fp\"\n", "[[task]]\n", 257)?;
+    let mut deep = with_pieces(alloc, "policy = ", "[", 81)?;
+    deep.push_str(with_pieces(alloc, "", "]", 81)?.as_str())?;
+    let top = Place::Top;
     let place = Place::Task(0);
     let rows = [
         (
-            "cost = 2.0",
+            "",
+            SheetRefusal::Missing {
+                place: top,
+                field: Field::Policy,
+            },
+        ),
+        (
+            "policy = \"fp\"",
+            SheetRefusal::Missing {
+                place: top,
+                field: Field::Task,
+            },
+        ),
+        (
+            "policy = \"fp\"\ntask = []\n",
+            SheetRefusal::Range {
+                place: top,
+                field: Field::Task,
+            },
+        ),
+        (
+            many.as_str(),
+            SheetRefusal::Range {
+                place: top,
+                field: Field::Task,
+            },
+        ),
+        (deep.as_str(), SheetRefusal::Text),
+        (
+            "policy = \"edf\"\n[[task]]\nname = \"a\"\ncost = 2.0\n",
             SheetRefusal::Kind {
                 place,
                 field: Field::Cost,
             },
         ),
-        ("colour = 1", SheetRefusal::Unknown { place }),
         (
-            "cost = 1000000001",
+            "policy = \"edf\"\n[[task]]\nname = \"a\"\ncolour = 1\n",
+            SheetRefusal::Unknown { place },
+        ),
+        (
+            "policy = \"edf\"\n[[task]]\nname = \"a\"\ncost = 1000000001\n",
             SheetRefusal::Range {
                 place,
                 field: Field::Cost,
             },
         ),
         (
-            "cost = 9223372036854775807",
+            "policy = \"edf\"\n[[task]]\nname = \"a\"\ncost = 9223372036854775807\n",
             SheetRefusal::Range {
                 place,
                 field: Field::Cost,
             },
         ),
-        ("cost = 9223372036854775808", SheetRefusal::Text),
         (
-            "cost = 2\ndeadline = 9\ncurve = { horizon = 5, steps = [[0, 1]] }",
+            "policy = \"edf\"\n[[task]]\nname = \"a\"\ncost = 9223372036854775808\n",
+            SheetRefusal::Text,
+        ),
+        (
+            "policy = \"edf\"\n[[task]]\nname = \"a\"\ncost = 2\ndeadline = 9\ncurve = { horizon = 5, steps = [[0, 1]] }\n",
             SheetRefusal::Range {
                 place,
                 field: Field::CurveSteps,
             },
         ),
         (
-            "cost = 4\ndeadline = 9\nperiod = 9\npreemption = { fixed = [1, 2] }",
+            "policy = \"edf\"\n[[task]]\nname = \"a\"\ncost = 4\ndeadline = 9\nperiod = 9\npreemption = { fixed = [1, 2] }\n",
             SheetRefusal::Sum { task: 0 },
         ),
         (
-            "cost = 4\ndeadline = 9\nperiod = 9\n[[task]]\nname = \"a\"",
+            "policy = \"edf\"\n[[task]]\nname = \"a\"\ncost = 4\ndeadline = 9\nperiod = 9\n[[task]]\nname = \"a\"\n",
             SheetRefusal::Twice { task: 1 },
         ),
     ];
-    for (lines, refusal) in rows {
-        refuses_lines(&rt, alloc, lines, refusal)?;
+    for (text, refusal) in rows {
+        assert_eq!(rt;
+            refusal_of(alloc, text.as_bytes()),
+            Some(refusal),
+            "at {text}"
+        );
     }
-    Ok(())
-}
-
-#[test]
-fn refused_documents(rt: HostRuntime) -> Result<(), Fail> {
-    let alloc = rt.alloc();
-    let no_task = b"policy = \"fp\"";
-    let empty_task = b"policy = \"fp\"\ntask = []\n";
-    assert_eq!(rt; refusal_of(alloc, b""), missing(Place::Top, Field::Policy));
-    assert_eq!(rt;
-        refusal_of(alloc, no_task),
-        missing(Place::Top, Field::Task)
-    );
-    assert_eq!(rt;
-        refusal_of(alloc, empty_task),
-        out_of_range(Place::Top, Field::Task)
-    );
     assert_eq!(rt; refusal_of(alloc, b"\xFF"), Some(SheetRefusal::Text));
-    Ok(())
-}
-
-#[test]
-fn refuses_257_tasks(rt: HostRuntime) -> Result<(), Fail> {
-    let mut text = String::from_str(rt.alloc(), "policy = \"fp\"\n")?;
-    for _ in 0..257 {
-        text.push_str("[[task]]\n")?;
-    }
-    assert_eq!(rt;
-        refusal_of(rt.alloc(), text.as_bytes()),
-        out_of_range(Place::Top, Field::Task)
-    );
-    Ok(())
-}
-
-#[test]
-fn refuses_deep_nesting(rt: HostRuntime) -> Result<(), Fail> {
-    let mut text = String::from_str(rt.alloc(), "policy = ")?;
-    for _ in 0..81 {
-        text.push('[')?;
-    }
-    for _ in 0..81 {
-        text.push(']')?;
-    }
-    assert_eq!(rt;
-        refusal_of(rt.alloc(), text.as_bytes()),
-        Some(SheetRefusal::Text)
-    );
     Ok(())
 }
 

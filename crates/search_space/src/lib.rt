@@ -8,3 +8,6 @@ mod points;
 
 pub use laws::{across_gap, between_points};
 pub use points::{compared, is_point, is_same, next_point};
+
+#[cfg(test)]
+mod tests;

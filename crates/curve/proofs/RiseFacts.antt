@@ -1,13 +1,13 @@
-use Rattle.std.proofs.Common.{◌≡◌, ℕ, suc, ◌+◌, ◌-◌, ◌*◌, ◌/◌, ◌%◌, ◌<◌, ◌≤◌, ◌⊎◌, Bool, true, false, cond, refl, sym, ◌∙◌, List, [], ◌∷◌, leb, ltb, ap, subst, inl, inr, arith}
-use Rattle.std.proofs.lemmas.Bool.{cases_lt, lt-leb, le-leb, lt-ltb, le-ltb}
+use Rattle.std.proofs.Common.{◌≡◌, ℕ, ◌+◌, ◌-◌, ◌*◌, ◌/◌, ◌%◌, ◌<◌, ◌≤◌, ◌⊎◌, true, false, refl, sym, ◌∙◌, List, [], ◌∷◌, leb, ltb, ap, subst, inl, inr, arith}
+use Rattle.std.proofs.lemmas.Bool.{cases_lt, le-leb, lt-ltb, le-ltb}
 use Rattle.std.proofs.lemmas.Nat.{div-mul-add, mod-mul-add, div-add-mod', mod_below}
-use Rattle.lists.specs.Searches.{IsLeast, IsLeastTo}
+use Rattle.lists.specs.Searches.{IsLeast}
 use Rattle.curve.specs.declared.prefix.Step.{Step}
 use Rattle.curve.specs.CurveValue.{Curve}
 use Rattle.curve.specs.Curves.{last_value, value_of, alpha_of, IsRise}
 use Rattle.curve.specs.Rises.{next_time_of}
 use Rattle.curve.specs.Validity.{RiseFrom, IsCurve, last_time}
-use Rattle.curve.proofs.CurveFacts.{last_value_early, last_value_kept, last_value_mono, value_first, value_mono}
+use Rattle.curve.proofs.CurveFacts.{last_value_early, last_value_kept, value_first}
 
 -- within one horizon, after q whole ones
 alpha_inside : (c : Curve) (q y : ℕ) → y < c.horizon → alpha_of c (q * c.horizon + y) ≡ q * value_of c c.horizon + value_of c y

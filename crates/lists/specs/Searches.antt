@@ -1,4 +1,4 @@
-use Rattle.std.specs.Prelude.{◌≡◌, ℕ, ◌<◌, ◌≤◌, Option, Some, None}
+use Rattle.std.specs.Prelude.{ℕ, ◌<◌, ◌≤◌, Option, Some, None}
 
 -- n has the property, and no smaller number has it
 pub record IsLeast (P : ℕ → Type 0) (n : ℕ) : Type 0 where

@@ -1,4 +1,4 @@
-use Rattle.std.specs.Prelude.{ℕ, ◌+◌, ◌<◌, ◌≤◌, ◌==◌, List, [], Bool, true, false, length, take, drop, count_by, slice_index_or}
+use Rattle.std.specs.Prelude.{ℕ, ◌<◌, ◌≤◌, ◌==◌, [], Bool, true, false, length, take, drop, count_by, slice_index_or}
 use Rattle.task_sheet.specs.declared.tasks.Job.{Job}
 use Rattle.run_model.specs.declared.run.Run.{Run}
 use Rattle.run_model.specs.declared.run.Tick.{Tick}

@@ -7,7 +7,7 @@ use Rattle.task_sheet.specs.Rules.{rise_above, last_number}
 use Rattle.task_sheet.specs.Sheets.{IsPromise}
 use Rattle.task_sheet.specs.declared.tasks.SupplySpec.TheVariants.{Promised}
 use Rattle.supply.specs.Promises.{count_of, promised}
-use Rattle.supply.specs.Kept.{test_holds, test_fails, rise_parts, count_none, Facts, facts_of, promised_zero, promised_step}
+use Rattle.supply.specs.Lawful.{test_holds, test_fails, rise_parts, count_none, Facts, facts_of, promised_zero, promised_step}
 
 last_above : (times : List ℕ) (low : ℕ) → rise_above low times ≡ true → low ≤ last_number low times
 last_above [] low rise = omega arith

@@ -1,4 +1,4 @@
 pub mod Promises
 pub mod PromiseParts
 pub mod Supplies
-pub mod Kept
+pub mod Lawful

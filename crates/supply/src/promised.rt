@@ -3,7 +3,7 @@ ghost use Rattle.std.specs.Prelude.{◌≡◌, false};
 ghost use Rattle.task_sheet.specs.Sheets.{IsPromise};
 ghost use Rattle.task_sheet.specs.declared.tasks.SupplySpec.TheVariants.{Promised as PromisedBy};
 ghost use Rattle.supply.specs.Supplies.{IsPromised, promised_by};
-ghost use Rattle.supply.specs.Kept.{promise_starts, promise_grows};
+ghost use Rattle.supply.specs.Lawful.{promise_starts, promise_grows};
 
 use crate::supply::Supply;
 use crate::windows::{least_promised, promised_in};

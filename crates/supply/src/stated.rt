@@ -2,7 +2,7 @@
 ghost use Rattle.std.specs.Prelude.{false};
 ghost use Rattle.task_sheet.specs.Sheets.{IsValidSheet};
 ghost use Rattle.supply.specs.Promises.{sbf_of};
-ghost use Rattle.supply.specs.Kept.{stated_starts, stated_grows};
+ghost use Rattle.supply.specs.Lawful.{stated_starts, stated_grows};
 
 use crate::supply::Supply;
 use crate::unit::Unit;

@@ -1,6 +1,6 @@
 //! A processor of one's own.
 ghost use Rattle.std.specs.Prelude.{refl, true};
-ghost use Rattle.supply.specs.Kept.{whole_grows};
+ghost use Rattle.supply.specs.Lawful.{whole_grows};
 
 use crate::supply::Supply;
 

@@ -11,7 +11,7 @@ use Rattle.curve.specs.Curves.{alpha_of}
 use Rattle.curve.proofs.CurveFacts.{alpha_mono, alpha_zero, alpha_one}
 use Rattle.task_sheet.specs.declared.tasks.Task.{Task}
 use Rattle.task_sheet.specs.SheetParts.{SheetParts}
-use Rattle.task_sheet.specs.Sheets.{task_at, IsTask, IsValidSheet}
+use Rattle.task_sheet.specs.Sheets.{task_at, IsValidSheet}
 use Rattle.policy.specs.declared.keys.Cap.{Cap}
 use Rattle.policy.specs.declared.keys.Cap.TheVariants.{Nothing, At, All}
 use Rattle.policy.specs.Keys.{not_below_zero}

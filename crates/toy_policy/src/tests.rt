@@ -1,0 +1,73 @@
+//! The verdict by the policy, on a sheet of two tasks.
+ghost use Rattle.std.specs.Prelude.{◌≡◌, true};
+ghost use Rattle.preemption.specs.CutLaws.{Serves};
+ghost use Rattle.preemption.specs.Kinds.{full_meaning};
+
+use super::*;
+use cert_check::{Verdict, check_cert};
+use curve::{Prefix, Step};
+use lists::{Items, Text};
+use policy::Policy;
+use preemption::{FullCut, PerTask};
+use std::alloc::Global;
+use std::test::Fail;
+use supply::Unit;
+use task_sheet::{Cut, PolicyKind, Sheet, SupplySpec, Task};
+
+const CERT: &[u8] = b"poet-cert 1\ntasks 2\ntask 0 1 1 1\np 0 1\ntask 1 3 3 1\np 0 3\nend\n";
+
+/// A task that arrives once in each period, whose deadline is the period.
+fn make_task(
+    alloc: Global,
+    name: &str,
+    cost: u64,
+    period: u64,
+    priority: u64,
+) -> Result<Task, Fail> {
+    let steps = vec![in alloc; Step { time: 1, value: 1 }]?;
+    Ok(Task {
+        name: Text::new(format!(in alloc; "{name}")?),
+        cost,
+        deadline: period,
+        priority,
+        curve: Prefix::check(period, steps)?,
+        cut: Cut::Full,
+    })
+}
+
+fn make_sheet(alloc: Global) -> Result<Sheet, Fail> {
+    let mut tasks = Vec::new(alloc);
+    tasks.push(make_task(alloc, "a", 1, 4, 2)?)?;
+    tasks.push(make_task(alloc, "b", 2, 6, 1)?)?;
+    Ok(Sheet::check(PolicyKind::Fp, SupplySpec::Unit, tasks)?)
+}
+
+/// Whether each task can be cut at every tick.
+fn is_full(sheet: &Sheet) -> bool
+    ensures { result ≡ true → Serves full_meaning sheet.now }
+{
+    for i in 0..sheet.len() {
+        if !matches!(sheet.task(i).cut, Cut::Full) {
+            return false;
+        }
+    }
+    true
+}
+
+#[test]
+fn accepted(rt: HostRuntime) -> Result<(), Fail> {
+    let alloc = rt.alloc();
+    let sheet = make_sheet(alloc)?;
+    let wanted = Verdict::Accepted(Items::new(vec![in alloc; 1, 3]?));
+    assert_eq!(rt; ByNumber::NAME, "by-number");
+
+    let by_task = check_cert::<ByNumber, PerTask, Unit>(alloc, &sheet, &Unit, true, CERT)?;
+    assert_eq!(rt; by_task, wanted);
+
+    assert!(rt; is_full(&sheet));
+    if is_full(&sheet) {
+        let full = check_cert::<ByNumber, FullCut, Unit>(alloc, &sheet, &Unit, true, CERT)?;
+        assert_eq!(rt; full, wanted);
+    }
+    Ok(())
+}

@@ -29,7 +29,12 @@ pub enum Verdict {
 fn bounds(alloc: Global, cert: &Cert) -> Result<Items<u64>, AllocError>
     ensures { IfOk result (λ bounds. bounds ≡ bounds_of cert.now) }
 {
-    let bounds = cert.entries.as_slice().iter().map(|entry| entry.bound).collect(alloc)?;
+    let bounds = cert
+        .entries
+        .as_slice()
+        .iter()
+        .map(|entry| entry.bound)
+        .collect(alloc)?;
     Ok(Items::new(bounds))
 }
 

@@ -7,6 +7,7 @@ use std::test::Fail;
 
 mod failing;
 mod files;
+mod large;
 mod rows;
 
 /// A sheet and a certificate, and what `check` says of them.

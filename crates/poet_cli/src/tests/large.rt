@@ -1,0 +1,116 @@
+//! Sheets at their limits, and a sheet that is printed and read again.
+use super::files::EIGHT_TASKS;
+use super::{list, shelf};
+use crate::top::poet_run;
+use poet_io::MemSink;
+use sheet_text::{print_sheet, read_sheet};
+use std::alloc::{AllocError, Global};
+use std::fmt::Write;
+use std::process::Abort;
+use std::test::Fail;
+
+/// A sheet of so many equal tasks, under fp.
+fn equal_tasks(alloc: Global, count: u32) -> Result<String, AllocError> {
+    let mut text = String::from_str(alloc, "policy = \"fp\"\n")?;
+    for i in 0..count {
+        write!(
+            text,
+            "[[task]]\nname = \"t{i}\"\ncost = 1\ndeadline = 512\n"
+        )?;
+        text.push_str("priority = 1\nperiod = 512\n")?;
+    }
+    Ok(text)
+}
+
+/// The same window, bound and end for each task.
+fn equal_entries(alloc: Global, count: u32) -> Result<String, AllocError> {
+    let mut text = String::new(alloc);
+    write!(text, "poet-cert 1\ntasks {count}\n")?;
+    for i in 0..count {
+        write!(text, "task {i} {count} {count} 1\np 0 {count}\n")?;
+    }
+    text.push_str("end\n")?;
+    Ok(text)
+}
+
+fn equal_lines(alloc: Global, count: u32) -> Result<String, AllocError> {
+    let mut text = String::from_str(alloc, "accepted\n")?;
+    for i in 0..count {
+        write!(text, "task t{i} bound {count} deadline 512 met\n")?;
+    }
+    Ok(text)
+}
+
+/// A task with so many segments of one tick.
+fn segmented_task(alloc: Global, count: u32) -> Result<String, AllocError> {
+    let mut text = String::from_str(alloc, "policy = \"fp\"\n[[task]]\nname = \"a\"\n")?;
+    write!(text, "cost = {count}\ndeadline = 5000\npriority = 1\n")?;
+    text.push_str("period = 10000\npreemption = { fixed = [1")?;
+    for _ in 1..count {
+        text.push_str(", 1")?;
+    }
+    text.push_str("] }\n")?;
+    Ok(text)
+}
+
+fn assert_check(
+    rt: &impl Abort,
+    alloc: Global,
+    files: (&str, &str),
+    status: u8,
+    texts: (&str, &str),
+) -> Result<(), AllocError> {
+    let words = list(alloc, &["check", "s", "c"])?;
+    let (sheet, certificate) = (files.0.as_bytes(), files.1.as_bytes());
+    let mut shelf = shelf(alloc, sheet, certificate, Vec::new(alloc))?;
+    let mut out = MemSink::new(alloc, Vec::new(alloc), 4096, 65_536)?;
+    let mut err = MemSink::new(alloc, Vec::new(alloc), 4096, 4096)?;
+    let found = poet_run(alloc, &words, &mut shelf, &mut out, &mut err);
+    assert_eq!(rt; found, status);
+    assert_eq!(rt; out.taken(), texts.0.as_bytes());
+    assert_eq!(rt; err.taken(), texts.1.as_bytes());
+    Ok(())
+}
+
+#[test]
+fn as_many_tasks_as_there_may_be(rt: HostRuntime) -> Result<(), Fail> {
+    let alloc = rt.alloc();
+    let (sheet, certificate) = (equal_tasks(alloc, 256)?, equal_entries(alloc, 256)?);
+    let lines = equal_lines(alloc, 256)?;
+    let files = (sheet.as_str(), certificate.as_str());
+    assert_check(&rt, alloc, files, 0, (lines.as_str(), ""))?;
+    Ok(())
+}
+
+#[test]
+fn one_task_too_many(rt: HostRuntime) -> Result<(), Fail> {
+    let alloc = rt.alloc();
+    let sheet = equal_tasks(alloc, 257)?;
+    let line = "sheet: task out of range in top\n";
+    assert_check(&rt, alloc, (sheet.as_str(), ""), 5, ("", line))?;
+    Ok(())
+}
+
+#[test]
+fn as_many_segments_as_there_may_be(rt: HostRuntime) -> Result<(), Fail> {
+    let alloc = rt.alloc();
+    let most = segmented_task(alloc, 1000)?;
+    let certificate = "poet-cert 1\ntasks 1\ntask 0 1000 1000 1\np 0 1000\nend\n";
+    let lines = "accepted\ntask a bound 1000 deadline 5000 met\n";
+    assert_check(&rt, alloc, (most.as_str(), certificate), 0, (lines, ""))?;
+    let more = segmented_task(alloc, 1001)?;
+    let line = "sheet: preemption out of range in task 0\n";
+    assert_check(&rt, alloc, (more.as_str(), certificate), 5, ("", line))?;
+    Ok(())
+}
+
+#[test]
+fn printed_sheets_read_again(rt: HostRuntime) -> Result<(), Fail> {
+    let alloc = rt.alloc();
+    let sheet = read_sheet(alloc, EIGHT_TASKS.as_bytes())?;
+    assert_eq!(rt; sheet.len(), 8);
+    let printed = print_sheet(alloc, &sheet)?;
+    let again = read_sheet(alloc, &printed)?;
+    assert_eq!(rt; print_sheet(alloc, &again)?.as_slice(), printed.as_slice());
+    Ok(())
+}

@@ -84,7 +84,7 @@ fn a_silent_err_changes_no_status(rt: HostRuntime) -> Result<(), Fail> {
 fn long_sheet(alloc: Global, len: usize) -> Result<Vec<u8>, AllocError> {
     let mut bytes = Vec::from_slice(alloc, ONE_TASK.as_bytes())?;
     bytes.push(b'#')?;
-    while bytes.len() < len {
+    for _ in bytes.len()..len {
         bytes.push(b'#')?;
     }
     Ok(bytes)

@@ -1,4 +1,4 @@
-use Rattle.std.specs.Prelude.{◌≡◌, ℕ, ◌+◌, ◌-◌, ◌<◌, ◌≤◌, ◌≢◌, true, false, length}
+use Rattle.std.specs.Prelude.{◌≡◌, ℕ, ◌+◌, ◌-◌, ◌<◌, ◌≤◌, ◌≢◌, ◌↔◌, true, false, length}
 use Rattle.curve.specs.Curves.{alpha_of}
 use Rattle.task_sheet.specs.SheetParts.{SheetParts}
 use Rattle.task_sheet.specs.Sheets.{task_at, IsValidSheet}
@@ -70,22 +70,31 @@ pub record IsCrowded (sheet : SheetParts) (run : Run) (k : ℕ) : Type 0 where
   pub within : start ≤ (job_at run k).arrival
   pub many : IsCrowdedFrom sheet run k start
 
--- within the curves exactly where no job is crowded, one way
-pub record CrowdsDecide (sheet : SheetParts) (run : Run) : Type 0 where
-  pub within : ((k : ℕ) → k < length run.jobs → IsCrowded sheet run k → ⊥) → IsWithinCurves sheet run
-  pub free : IsWithinCurves sheet run → (k : ℕ) → k < length run.jobs → IsCrowded sheet run k → ⊥
+-- the same from the arrival of job n, which is of the same task and no later
+pub record IsCrowdedSince (sheet : SheetParts) (run : Run) (k n : ℕ) : Type 0 where
+  pub listed : n < length run.jobs
+  pub same_task : (job_at run n).task ≡ (job_at run k).task
+  pub no_later : (job_at run n).arrival ≤ (job_at run k).arrival
+  pub many : IsCrowdedFrom sheet run k (job_at run n).arrival
 
--- no test fails of any job or tick
+-- no job is crowded
+abbrev pub AreUncrowded : SheetParts → Run → Type 0
+AreUncrowded sheet run = (k : ℕ) → k < length run.jobs → IsCrowded sheet run k → ⊥
+
+-- the arrivals are within the curves exactly where no job is crowded
+abbrev pub DecideCrowds : Type 0
+DecideCrowds = (sheet : SheetParts) → IsValidSheet sheet → (run : Run) → AreOf sheet run → IsWithinCurves sheet run ↔ AreUncrowded sheet run
+
+-- no test fails, of any job, any prefix or any tick
 pub record PassesTests (p : PolicyMeaning) (m : CutMeaning) (sbf : ℕ → ℕ) (sheet : SheetParts) (run : Run) : Type 0 where
   pub fit : (k : ℕ) → k < length run.jobs → JobFits m sheet run k
   pub valid : (t : ℕ) → t < length run.ticks → IsValidAt run t
-  pub uncrowded : (k : ℕ) → k < length run.jobs → IsCrowded sheet run k → ⊥
-  pub unshort : (u : ℕ) → u ≤ length run.ticks → IsShort sbf run u → ⊥
+  pub uncrowded : AreUncrowded sheet run
+  pub never_short : (u : ℕ) → u ≤ length run.ticks → IsShort sbf run u → ⊥
   pub conserving : (t k : ℕ) → t < length run.ticks → k < length run.jobs → IsIdleBroken run t k → ⊥
   pub segments : (t k : ℕ) → t < length run.ticks → k < length run.jobs → IsSegmentBroken m sheet run t k → ⊥
   pub policy : (t n : ℕ) → t < length run.ticks → n < length run.jobs → IsPriorityBroken p m sheet run t n → ⊥
 
 -- a run complies exactly where no test fails
-pub record TestsDecide (p : PolicyMeaning) (m : CutMeaning) (sbf : ℕ → ℕ) (sheet : SheetParts) (run : Run) : Type 0 where
-  pub complies : PassesTests p m sbf sheet run → IsCompliant p m sbf sheet run
-  pub passes : IsCompliant p m sbf sheet run → PassesTests p m sbf sheet run
+abbrev pub DecideCompliance : PolicyMeaning → CutMeaning → (ℕ → ℕ) → Type 0
+DecideCompliance p m sbf = (sheet : SheetParts) → IsValidSheet sheet → (run : Run) → IsCompliant p m sbf sheet run ↔ PassesTests p m sbf sheet run

@@ -1,4 +1,4 @@
-use Rattle.std.proofs.Common.{ℕ, ◌-◌, ◌<◌, ◌≤◌, length, inl, inr, arith}
+use Rattle.std.proofs.Common.{◌≡◌, ℕ, ◌-◌, ◌<◌, ◌≤◌, length, inl, inr, arith}
 use Rattle.std.proofs.lemmas.Bool.{cases_lt, cases_Bool}
 use Rattle.task_sheet.specs.SheetParts.{SheetParts}
 use Rattle.task_sheet.specs.Sheets.{IsValidSheet}
@@ -6,11 +6,16 @@ use Rattle.policy.specs.Keys.{key_le}
 use Rattle.policy.specs.PolicyMeaning.{PolicyMeaning}
 use Rattle.preemption.specs.CutMeaning.{CutMeaning}
 use Rattle.run_model.specs.declared.run.Run.{Run}
-use Rattle.run_model.specs.Runs.{job_at, is_on, ticks_in}
+use Rattle.run_model.specs.Runs.{job_at, tick_at, is_on, ticks_in}
+use Rattle.run_model.specs.declared.run.Tick.TheVariants.{Runs}
 use Rattle.run_model.proofs.ServiceFacts.{step_cases}
 use Rattle.schedule_laws.specs.Compliance.{IsSupplied, IsWorkConserving, KeepsSegments, KeepsPolicy, IsCompliant}
-use Rattle.schedule_laws.specs.Tests.{IsShort, IsPriorityBroken, PassesTests}
+use Rattle.schedule_laws.specs.Tests.{IsValidAt, IsShort, IsPriorityBroken, PassesTests}
 use Rattle.schedule_laws.proofs.CrowdFacts.{ends_suffice, within_free}
+
+-- what a valid tick runs is a job of the list
+pub valid_named : (run : Run) (t : ℕ) → IsValidAt run t → (k : ℕ) → tick_at run t ≡ Runs k → k < length run.jobs
+valid_named run t valid k runs = (valid.may_run k runs).pending.listed
 
 module _ (p : PolicyMeaning) (m : CutMeaning) (sbf : ℕ → ℕ) (sheet : SheetParts) (ok : IsValidSheet sheet) (run : Run) where
   supplied_from : PassesTests p m sbf sheet run → IsSupplied sbf run
@@ -36,7 +41,7 @@ module _ (p : PolicyMeaning) (m : CutMeaning) (sbf : ℕ → ℕ) (sheet : Sheet
 
   pub complies : PassesTests p m sbf sheet run → IsCompliant p m sbf sheet run
   complies tests = record {
-    valid = record { jobs = tests.fit; ticks = λ t k b runs. tests.valid t b k runs };
+    valid = record { jobs = tests.fit; ticks = λ t k b runs. (tests.valid t b).may_run k runs };
     curves = ends_suffice sheet ok run tests.uncrowded;
     supplied = supplied_from tests;
     conserving = conserving_from tests;
@@ -53,7 +58,7 @@ module _ (p : PolicyMeaning) (m : CutMeaning) (sbf : ℕ → ℕ) (sheet : Sheet
   pub passes : IsCompliant p m sbf sheet run → PassesTests p m sbf sheet run
   passes c = record {
     fit = c.valid.jobs;
-    valid = λ t b k runs. c.valid.ticks t k b runs;
+    valid = λ t b. record { may_run = λ k runs. c.valid.ticks t k b runs };
     uncrowded = within_free sheet ok run (λ k b. (c.valid.jobs k b).task) c.curves;
     never_short = never_short_in c;
     conserving = λ t k b listed broken. c.conserving t k b broken.idle broken.waits;

@@ -27,8 +27,8 @@ pub record HoldsBack (run : Run) (k t n : ℕ) : Type 0 where
   pub not_done : service_of run n t < (job_at run n).cost
 
 -- what tick t runs, if anything, it may run
-abbrev pub IsValidAt : Run → ℕ → Type 0
-IsValidAt run t = (k : ℕ) → tick_at run t ≡ Runs k → MayRun run k t
+pub record IsValidAt (run : Run) (t : ℕ) : Type 0 where
+  pub may_run : (k : ℕ) → tick_at run t ≡ Runs k → MayRun run k t
 
 -- job k is pending at tick t, which is idle
 pub record IsIdleBroken (run : Run) (t k : ℕ) : Type 0 where

@@ -8,5 +8,5 @@ pub returns-else-k-len : goal.returns-else-k-len
 returns-else-k-len c =
     let is : tick_at c.args.run.now c.args.t ≡ Runs c.in-Runs.k = cc in (
       (λ test. let less : c.in-Runs.k < c.len.result = ltb-true c.in-Runs.k c.len.result test in absurd (omega arith)),
-      (λ valid. absurd (omega (arith, (valid c.in-Runs.k is).pending.listed))),
+      (λ valid. absurd (omega (arith, (valid.may_run c.in-Runs.k is).pending.listed))),
     )

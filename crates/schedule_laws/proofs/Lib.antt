@@ -1,1 +1,4 @@
 pub mod PrefixFacts
+pub mod SupplyFacts
+pub mod CrowdFacts
+pub mod TestFacts

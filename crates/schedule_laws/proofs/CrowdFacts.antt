@@ -1,0 +1,126 @@
+use Rattle.std.proofs.Common.{◌≡◌, ℕ, zero, suc, ◌+◌, ◌-◌, ◌<◌, ◌≤◌, ◌⊎◌, Bool, false, cond, length, take, count_by, refl, ap, subst, inl, inr, arith}
+use Rattle.std.proofs.lemmas.Bool.{cases_lt, cases_eq}
+use Rattle.std.proofs.lemmas.Bool.Decides.{nat_tests}
+use Rattle.std.proofs.Math.Seq.{take-length}
+use Rattle.lists.proofs.SumFacts.{count_more}
+use Rattle.curve.specs.Curves.{alpha_of}
+use Rattle.curve.proofs.CurveFacts.{alpha_mono}
+use Rattle.task_sheet.specs.declared.tasks.Job.{Job}
+use Rattle.task_sheet.specs.SheetParts.{SheetParts}
+use Rattle.task_sheet.specs.Sheets.{task_at, IsValidSheet}
+use Rattle.policy.specs.PolicyLaws.{IsOf}
+use Rattle.run_model.specs.declared.run.Run.{Run}
+use Rattle.run_model.specs.Runs.{job_at, no_job}
+use Rattle.schedule_laws.specs.Compliance.{arrives_in, arrivals_of, IsWithinCurves}
+use Rattle.schedule_laws.specs.Tests.{AreOf, IsCrowded, IsCrowdedFrom, IsCrowdedSince}
+
+same_front : (p q : Job → Bool) (run : Run) (n : ℕ) → n ≤ length run.jobs → ((k : ℕ) → k < n → p (job_at run k) ≡ q (job_at run k)) → count_by p (take n run.jobs) ≡ count_by q (take n run.jobs)
+same_front p q run zero h e = refl
+same_front p q run (suc n) h e =
+    omega (arith, same_front p q run n (omega arith) (λ k b. e k (omega arith)), count_more p run.jobs no_job n (omega arith), count_more q run.jobs no_job n (omega arith), ap (λ (b : Bool). cond {A = ℕ} b 1 0) (e n (omega arith)))
+
+-- tests that agree on every job count the same
+same_count : (p q : Job → Bool) (run : Run) → ((k : ℕ) → k < length run.jobs → p (job_at run k) ≡ q (job_at run k)) → count_by p run.jobs ≡ count_by q run.jobs
+same_count p q run e = simp take-length at (same_front p q run (length run.jobs) (omega arith) e)
+
+same_arrivals : (run : Run) (o t u v w : ℕ) → ((k : ℕ) → k < length run.jobs → arrives_in o t u (job_at run k) ≡ arrives_in o v w (job_at run k)) → arrivals_of run o t u ≡ arrivals_of run o v w
+unfolding arrivals_of
+same_arrivals run o t u v w e = same_count (arrives_in o t u) (arrives_in o v w) run e
+
+none_front : (run : Run) (n : ℕ) → n ≤ length run.jobs → count_by (λ j. false) (take n run.jobs) ≡ 0
+none_front run zero h = refl
+none_front run (suc n) h = omega (arith, none_front run n (omega arith), count_more (λ j. false) run.jobs no_job n (omega arith))
+
+none_passes : (run : Run) → count_by (λ j. false) run.jobs ≡ 0
+none_passes run = simp take-length at (none_front run (length run.jobs) (omega arith))
+
+in_none : (o t : ℕ) (j : Job) → arrives_in o t (t + 0) j ≡ false
+in_none o t j = grind (arith, nat_tests)
+
+-- nothing arrives in an empty window
+arrivals_none : (run : Run) (o t : ℕ) → arrivals_of run o t (t + 0) ≡ 0
+unfolding arrivals_of
+arrivals_none run o t = omega (arith, same_count (arrives_in o t (t + 0)) (λ j. false) run (λ k c. in_none o t (job_at run k)), none_passes run)
+
+more : {P : ℕ → Type 0} (n : ℕ) → ((k : ℕ) → k < n → P k) → P n → (k : ℕ) → k < suc n → P k
+more {P} n below last k h = elim (cases_lt k n) [ inl c ↦ below k c | inr c ↦ let e : n ≡ k = omega arith in subst P e last ]
+
+-- some job of task o arrives at t, or none among the first n
+arrival_or_none : (o t : ℕ) (run : Run) (n : ℕ) → ((k : ℕ) × (k < n) × ((job_at run k).task ≡ o) × ((job_at run k).arrival ≡ t)) ⊎ ((k : ℕ) → k < n → (job_at run k).task ≡ o → (job_at run k).arrival ≡ t → ⊥)
+arrival_or_none o t run zero = inr (λ k b e i. omega arith)
+arrival_or_none o t run (suc n) = elim (arrival_or_none o t run n) [
+  | inl k ↦ inl (k.0, omega (arith, k.1), k.2, k.3)
+  | inr none ↦ elim (cases_eq (job_at run n).task o) [
+    | inr ne ↦ inr (more n none (λ e i. ne e))
+    | inl e ↦ elim (cases_eq (job_at run n).arrival t) [
+      | inl i ↦ inl (n, omega arith, e, i)
+      | inr ne ↦ inr (more n none (λ e i. ne i))
+    ]
+  ]
+]
+
+not_at_end : (o t d : ℕ) (j : Job) → (j.task ≡ o → j.arrival ≡ t + d → ⊥) → arrives_in o t (t + suc d) j ≡ arrives_in o t (t + d) j
+not_at_end o t d j h = grind (arith, nat_tests)
+
+not_at_start : (o t u : ℕ) (j : Job) → (j.task ≡ o → j.arrival ≡ t → ⊥) → arrives_in o t u j ≡ arrives_in o (suc t) u j
+not_at_start o t u j h = grind (arith, nat_tests)
+
+window_length : (t d : ℕ) → t + suc d - t ≡ suc d
+window_length t d = omega arith
+
+module _ (sheet : SheetParts) (ok : IsValidSheet sheet) (run : Run) where
+  -- a window that begins where nothing arrives is crowded only if the next one is
+  crowded_next : (k t : ℕ) → IsOf sheet (job_at run k) → t < (job_at run k).arrival → ((n : ℕ) → n < length run.jobs → (job_at run n).task ≡ (job_at run k).task → (job_at run n).arrival ≡ t → ⊥) →
+      IsCrowdedFrom sheet run k t → IsCrowdedFrom sheet run k (suc t)
+  crowded_next k t of h none many =
+      let o = (job_at run k).task in
+      let b = (job_at run k).arrival in
+      omega (
+        arith,
+        many,
+        alpha_mono (task_at sheet o).curve (ok.each o of).curve (b + 1 - suc t) (b + 1 - t) (omega arith),
+        same_arrivals run o t (b + 1) (suc t) (b + 1) (λ n c. not_at_start o t (b + 1) (job_at run n) (none n c)),
+      )
+
+  -- windows that begin at an arrival suffice
+  begins : (k t d : ℕ) → k < length run.jobs → IsOf sheet (job_at run k) → t + d ≡ (job_at run k).arrival → ((n : ℕ) → n < length run.jobs → IsCrowdedSince sheet run k n → ⊥) → IsCrowdedFrom sheet run k t → ⊥
+  begins k t zero b of e free many =
+      let i : t ≡ (job_at run k).arrival = omega arith in
+      free k b (record { listed = b; same_task = refl; no_later = omega arith; many = subst (IsCrowdedFrom sheet run k) i many })
+  begins k t (suc d) b of e free many = elim (arrival_or_none (job_at run k).task t run (length run.jobs)) [
+    | inl n ↦
+        let i : t ≡ (job_at run n.0).arrival = omega (arith, n.3) in
+        free n.0 n.1 (record { listed = n.1; same_task = n.2; no_later = omega (arith, n.3); many = subst (IsCrowdedFrom sheet run k) i many })
+    | inr none ↦ begins k (suc t) d b of (omega arith) free (crowded_next k t of (omega arith) none many)
+  ]
+
+  pub begins_suffice : (k : ℕ) → k < length run.jobs → IsOf sheet (job_at run k) → ((n : ℕ) → n < length run.jobs → IsCrowdedSince sheet run k n → ⊥) → IsCrowded sheet run k → ⊥
+  begins_suffice k b of free c = begins k c.start ((job_at run k).arrival - c.start) b of (omega (arith, c.within)) free c.many
+
+  -- no window that ends with the arrival of job k is crowded
+  uncrowded : (k t : ℕ) → (IsCrowded sheet run k → ⊥) → t ≤ (job_at run k).arrival → arrivals_of run (job_at run k).task t ((job_at run k).arrival + 1) ≤ alpha_of (task_at sheet (job_at run k).task).curve ((job_at run k).arrival + 1 - t)
+  uncrowded k t free h = elim (cases_lt (alpha_of (task_at sheet (job_at run k).task).curve ((job_at run k).arrival + 1 - t)) (arrivals_of run (job_at run k).task t ((job_at run k).arrival + 1))) [
+    | inl many ↦ absurd (free (record { start = t; within = h; many = many }))
+    | inr few ↦ few
+  ]
+
+  -- windows that end with an arrival suffice
+  windows : ((k : ℕ) → k < length run.jobs → IsCrowded sheet run k → ⊥) → (o t d : ℕ) → o < length sheet.tasks → arrivals_of run o t (t + d) ≤ alpha_of (task_at sheet o).curve d
+  windows free o t zero b = omega (arith, arrivals_none run o t)
+  windows free o t (suc d) b = elim (arrival_or_none o (t + d) run (length run.jobs)) [
+    | inl k ↦
+        let e : (job_at run k.0).arrival + 1 ≡ t + suc d = omega (arith, k.3) in
+        let of_o = subst (λ w. arrivals_of run w t ((job_at run k.0).arrival + 1) ≤ alpha_of (task_at sheet w).curve ((job_at run k.0).arrival + 1 - t)) k.2 (uncrowded k.0 t (free k.0 k.1) (omega (arith, k.3))) in
+        let at_end = subst (λ w. arrivals_of run o t w ≤ alpha_of (task_at sheet o).curve (w - t)) e of_o in
+        rw window_length at at_end
+    | inr none ↦ omega (arith, windows free o t d b, alpha_mono (task_at sheet o).curve (ok.each o b).curve d (suc d) (omega arith), same_arrivals run o t (t + suc d) t (t + d) (λ k c. not_at_end o t d (job_at run k) (none k c)))
+  ]
+
+  pub ends_suffice : ((k : ℕ) → k < length run.jobs → IsCrowded sheet run k → ⊥) → IsWithinCurves sheet run
+  ends_suffice free o t u b h =
+      let e : t + (u - t) ≡ u = omega arith in
+      subst (λ w. arrivals_of run o t w ≤ alpha_of (task_at sheet o).curve (u - t)) e (windows free o t (u - t) b)
+
+  pub within_free : AreOf sheet run → IsWithinCurves sheet run → (k : ℕ) → k < length run.jobs → IsCrowded sheet run k → ⊥
+  within_free of within k b c =
+      omega (arith, c.many, within (job_at run k).task c.start ((job_at run k).arrival + 1) (of k b) (omega (arith, c.within)))

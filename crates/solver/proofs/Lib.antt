@@ -1,0 +1,7 @@
+pub mod LawFacts
+pub mod Jumps
+pub mod Listing
+pub mod Chain
+pub mod Least
+pub mod Listed
+pub mod Theorems

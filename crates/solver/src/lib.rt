@@ -8,3 +8,6 @@ mod searches;
 
 pub use analysis::{AnalyseRefusal, analyse};
 pub use searches::{least_bound, least_end, least_window};
+
+#[cfg(test)]
+mod tests;

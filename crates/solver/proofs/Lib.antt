@@ -3,5 +3,6 @@ pub mod Jumps
 pub mod Listing
 pub mod Chain
 pub mod Least
+pub mod Unique
 pub mod Listed
 pub mod Theorems

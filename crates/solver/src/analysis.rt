@@ -4,6 +4,7 @@ ghost use Rattle.preemption.specs.CutLaws.{Serves};
 ghost use Rattle.certificate.specs.Text.{IsWithinGrammar};
 ghost use Rattle.conditions.specs.Conditions.{failed_of};
 ghost use Rattle.solver.specs.Best.{IsBest, HasCause, IsUpTo, NoneSmaller, NoneWhereNoBound};
+ghost use Rattle.solver.specs.Outcome.{IsBestAnswer};
 
 use crate::entries::{best_entry, count_points};
 use crate::laws::laws;
@@ -40,6 +41,7 @@ fn best_cert<P: Policy, M: Preemption, S: Supply>(
     requires served { Serves M.cuts sheet.now }
     ensures best { IfOk result (IsBest P.meaning M.cuts (S.sbf supply.now) sheet.now horizon) }
     ensures cause { IfErr result (HasCause P.meaning M.cuts (S.sbf supply.now) sheet.now horizon) }
+    ensures exact { IsBestAnswer P.meaning M.cuts (S.sbf supply.now) sheet.now horizon result }
 {
     laws::<P, M, S>(sheet, supply);
     let mut entries = Vec::new(alloc);
@@ -83,6 +85,7 @@ pub fn analyse<P: Policy, M: Preemption, S: Supply>(
     ensures up_to { IfOk result (IsUpTo horizon) }
     ensures least { IfOk result (NoneSmaller P.meaning M.cuts (S.sbf supply.now) sheet.now horizon) }
     ensures cause { IfErr result (HasCause P.meaning M.cuts (S.sbf supply.now) sheet.now horizon) }
+    ensures exact { IsBestAnswer P.meaning M.cuts (S.sbf supply.now) sheet.now horizon result }
     ensures none { IfErr result (NoneWhereNoBound P.meaning M.cuts (S.sbf supply.now) sheet.now horizon) }
 {
     laws::<P, M, S>(sheet, supply);

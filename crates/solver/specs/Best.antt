@@ -1,0 +1,98 @@
+-- The best certificate, and why there is none.
+use Rattle.std.specs.Prelude.{◌≡◌, ℕ, zero, suc, ◌+◌, ◌<◌, ◌≤◌, false, None, List, map, length, All, slice_index_or}
+use Rattle.std.specs.List.{AllByRecursion}
+use Rattle.lists.specs.Searches.{IsLeast}
+use Rattle.task_sheet.specs.SheetParts.{SheetParts}
+use Rattle.policy.specs.PolicyMeaning.{PolicyMeaning}
+use Rattle.preemption.specs.CutMeaning.{CutMeaning}
+use Rattle.certificate.specs.declared.cert.Entry.{Entry}
+use Rattle.certificate.specs.declared.cert.Cert.{Cert}
+use Rattle.certificate.specs.Text.{IsWithinGrammar}
+use Rattle.abstract_rta.specs.Meeting.{IsWindow, MeetsEnd, MeetsBound}
+use Rattle.conditions.specs.Conditions.{no_entry, entry_at, failed_of}
+use Rattle.solver.specs.Points.{points_below}
+use Rattle.solver.specs.declared.analysis.AnalyseRefusal.{AnalyseRefusal}
+use Rattle.solver.specs.declared.analysis.AnalyseRefusal.TheVariants.{NoBound, Points, Memory}
+
+-- the bound meets K6 and K8 at every point
+abbrev pub MeetsEach : PolicyMeaning → CutMeaning → (ℕ → ℕ) → SheetParts → ℕ → List (ℕ × ℕ) → ℕ → Type 0
+MeetsEach p m sbf sheet i points bound = AllByRecursion (λ q. MeetsBound p m sbf sheet i q.0 q.1 bound) points
+
+-- the best entry of task i: its window is the least that meets K3, its offsets are the points below it,
+-- each end is the least that meets K7, and the bound the least that meets K6 and K8 at every point
+pub record IsBestEntry (p : PolicyMeaning) (m : CutMeaning) (sbf : ℕ → ℕ) (sheet : SheetParts) (i : ℕ) (e : Entry) : Type 0 where
+  pub window : IsLeast (IsWindow p m sbf sheet i) e.window
+  pub offsets : map (λ q. q.0) e.points ≡ points_below p sheet i e.window
+  pub ends : AllByRecursion (λ q. IsLeast (MeetsEnd p m sbf sheet i q.0) q.1) e.points
+  pub bound : IsLeast (MeetsEach p m sbf sheet i e.points) e.bound
+
+abbrev pub nth_entry : List Entry → ℕ → Entry
+nth_entry entries i = slice_index_or entries i no_entry
+
+-- the entries are the best of the first tasks, with windows up to the horizon
+abbrev pub AreBest : PolicyMeaning → CutMeaning → (ℕ → ℕ) → SheetParts → ℕ → List Entry → Type 0
+AreBest p m sbf sheet horizon entries = (i : ℕ) → i < length entries → ((nth_entry entries i).window ≤ horizon) × IsBestEntry p m sbf sheet i (nth_entry entries i)
+
+-- how many points the first n entries have
+abbrev pub points_to : List Entry → ℕ → ℕ
+points_to entries zero = 0
+points_to entries (suc n) = points_to entries n + length (nth_entry entries n).points
+
+-- the best certificate up to the horizon
+pub record IsBest (p : PolicyMeaning) (m : CutMeaning) (sbf : ℕ → ℕ) (sheet : SheetParts) (horizon : ℕ) (cert : Cert) : Type 0 where
+  pub count : length cert.entries ≡ length sheet.tasks
+  pub best : AreBest p m sbf sheet horizon cert.entries
+  pub few : points_to cert.entries (length sheet.tasks) ≤ 1000000
+
+-- the tasks before i have their best entries, and no more points than are allowed
+pub record HaveEntries (p : PolicyMeaning) (m : CutMeaning) (sbf : ℕ → ℕ) (sheet : SheetParts) (horizon i : ℕ) (entries : List Entry) : Type 0 where
+  pub task : i < length sheet.tasks
+  pub count : length entries ≡ i
+  pub best : AreBest p m sbf sheet horizon entries
+  pub few : points_to entries i ≤ 1000000
+
+-- each task before i has its entry, and no window of i up to the horizon meets K3
+pub record HasNoBound (p : PolicyMeaning) (m : CutMeaning) (sbf : ℕ → ℕ) (sheet : SheetParts) (horizon i : ℕ) : Type 0 where
+  pub before : (entries : List Entry) × HaveEntries p m sbf sheet horizon i entries
+  pub none : (window : ℕ) → window ≤ horizon → IsWindow p m sbf sheet i window → ⊥
+
+-- each task before i has its entry and i a window, with whose points there are more than are allowed
+pub record HasManyPoints (p : PolicyMeaning) (m : CutMeaning) (sbf : ℕ → ℕ) (sheet : SheetParts) (horizon i : ℕ) : Type 0 where
+  pub entries : List Entry
+  pub before : HaveEntries p m sbf sheet horizon i entries
+  pub window : ℕ
+  pub within : window ≤ horizon
+  pub least : IsLeast (IsWindow p m sbf sheet i) window
+  pub many : 1000000 < points_to entries i + length (points_below p sheet i window)
+
+-- why there is no answer
+abbrev pub HasCause : PolicyMeaning → CutMeaning → (ℕ → ℕ) → SheetParts → ℕ → AnalyseRefusal → Type 0
+HasCause p m sbf sheet horizon (NoBound i) = HasNoBound p m sbf sheet horizon i
+HasCause p m sbf sheet horizon (Points i) = HasManyPoints p m sbf sheet horizon i
+HasCause p m sbf sheet horizon Memory = Unit {0}
+
+-- the numbers of an entry are at most the horizon
+pub record IsEntryUpTo (horizon : ℕ) (e : Entry) : Type 0 where
+  pub window : e.window ≤ horizon
+  pub bound : e.bound ≤ horizon
+  pub points : All (λ q. (q.0 ≤ horizon) × (q.1 ≤ horizon)) e.points
+
+-- the numbers of a certificate are at most the horizon
+abbrev pub IsUpTo : ℕ → Cert → Type 0
+IsUpTo horizon cert = All (IsEntryUpTo horizon) cert.entries
+
+-- no certificate with numbers up to the horizon that meets the conditions has a smaller window or bound
+abbrev pub NoneSmaller : PolicyMeaning → CutMeaning → (ℕ → ℕ) → SheetParts → ℕ → Cert → Type 0
+NoneSmaller p m sbf sheet horizon cert =
+    (other : Cert) → IsWithinGrammar other → IsUpTo horizon other → failed_of p m sbf sheet false other ≡ None → (i : ℕ) → i < length sheet.tasks →
+    ((entry_at cert i).window ≤ (entry_at other i).window) × ((entry_at cert i).bound ≤ (entry_at other i).bound)
+
+-- no certificate with numbers up to the horizon meets the conditions
+abbrev pub NoneMeets : PolicyMeaning → CutMeaning → (ℕ → ℕ) → SheetParts → ℕ → Type 0
+NoneMeets p m sbf sheet horizon = (other : Cert) → IsWithinGrammar other → IsUpTo horizon other → failed_of p m sbf sheet false other ≡ None → ⊥
+
+-- so it is where there is no bound
+abbrev pub NoneWhereNoBound : PolicyMeaning → CutMeaning → (ℕ → ℕ) → SheetParts → ℕ → AnalyseRefusal → Type 0
+NoneWhereNoBound p m sbf sheet horizon (NoBound i) = NoneMeets p m sbf sheet horizon
+NoneWhereNoBound p m sbf sheet horizon (Points i) = Unit {0}
+NoneWhereNoBound p m sbf sheet horizon Memory = Unit {0}

@@ -1,0 +1,19 @@
+use Rattle.std.specs.Prelude.{ℕ, ◌+◌, ◌-◌, ◌<◌, ◌≤◌, length}
+use Rattle.task_sheet.specs.SheetParts.{SheetParts}
+use Rattle.task_sheet.specs.Sheets.{IsValidSheet}
+use Rattle.policy.specs.PolicyMeaning.{PolicyMeaning}
+use Rattle.preemption.specs.CutMeaning.{CutMeaning}
+use Rattle.demand.specs.Demand.{rest_of, need_of, window_need_of}
+use Rattle.search_space.specs.Points.{IsSame}
+
+-- all that the search for least numbers rests on
+pub record Laws (p : PolicyMeaning) (m : CutMeaning) (sbf : ℕ → ℕ) (sheet : SheetParts) : Type 0 where
+  pub valid : IsValidSheet sheet
+  -- supply and demand do not fall as a window grows
+  pub rises : (d : ℕ) → sbf d ≤ sbf (d + 1)
+  pub need_grows : (i a x y : ℕ) → x ≤ y → need_of p m sheet i a x ≤ need_of p m sheet i a y
+  pub window_grows : (i k l : ℕ) → k ≤ l → window_need_of p m sheet i k ≤ window_need_of p m sheet i l
+  -- what a job needs and the rest of it fit into the demand of its class
+  pub need_fits : (i a l : ℕ) → i < length sheet.tasks → a < l → need_of p m sheet i a l + rest_of m sheet i ≤ window_need_of p m sheet i l
+  -- at an offset from which no number tells a later one apart, as much is needed as at each between them
+  pub across_gap : (i from to a x : ℕ) → i < length sheet.tasks → from ≤ a → a < to → IsSame p sheet i from (to - 1) → need_of p m sheet i a x ≤ need_of p m sheet i from x

@@ -1,0 +1,93 @@
+//! The analysis of a whole sheet.
+ghost use Rattle.std.specs.Prelude.{◌≡◌, ◌≤◌, false, None, IfOk, IfErr};
+ghost use Rattle.preemption.specs.CutLaws.{Serves};
+ghost use Rattle.certificate.specs.Text.{IsWithinGrammar};
+ghost use Rattle.conditions.specs.Conditions.{failed_of};
+ghost use Rattle.solver.specs.Best.{IsBest, HasCause, IsUpTo, NoneSmaller, NoneWhereNoBound};
+ghost use Rattle.solver.specs.Outcome.{IsBestAnswer};
+
+use crate::entries::{best_entry, count_points};
+use crate::laws::laws;
+use crate::searches::least_window;
+use certificate::Cert;
+use lists::Items;
+use policy::Policy;
+use preemption::Preemption;
+use std::alloc::Global;
+use supply::Supply;
+use task_sheet::Sheet;
+
+/// Why there is no certificate. Tasks are named by their numbers, counted from 0.
+#[derive(Clone, Copy, Debug, PartialEq, Eq)]
+pub enum AnalyseRefusal {
+    /// No window of the task up to the horizon supplies what its class asks for.
+    NoBound { task: u32 },
+    /// The first task with which there are more than 1,000,000 points.
+    Points { task: u32 },
+    /// Want of memory.
+    Memory,
+}
+
+const MAX_POINTS: u64 = 1_000_000;
+
+/// The best certificate up to the horizon, or why there is none.
+fn best_cert<P: Policy, M: Preemption, S: Supply>(
+    alloc: Global,
+    sheet: &Sheet,
+    supply: &S,
+    horizon: u64,
+) -> Result<Cert, AnalyseRefusal>
+    requires horizon { horizon ≤ 1000000000 }
+    requires served { Serves M.cuts sheet.now }
+    ensures best { IfOk result (IsBest P.meaning M.cuts (S.sbf supply.now) sheet.now horizon) }
+    ensures cause { IfErr result (HasCause P.meaning M.cuts (S.sbf supply.now) sheet.now horizon) }
+    ensures exact { IsBestAnswer P.meaning M.cuts (S.sbf supply.now) sheet.now horizon result }
+{
+    laws::<P, M, S>(sheet, supply);
+    let mut entries = Vec::new(alloc);
+    let mut room = MAX_POINTS;
+    for i in 0..sheet.len() {
+        let Some(window) = least_window::<P, M, S>(sheet, supply, i, horizon) else {
+            return Err(AnalyseRefusal::NoBound { task: i });
+        };
+        let Some(count) = count_points::<P>(sheet, i, window, room) else {
+            return Err(AnalyseRefusal::Points { task: i });
+        };
+        let Ok(entry) = best_entry::<P, M, S>(alloc, sheet, supply, i, window) else {
+            return Err(AnalyseRefusal::Memory);
+        };
+        let Ok(()) = entries.push(entry) else {
+            return Err(AnalyseRefusal::Memory);
+        };
+        room -= count;
+    }
+    Ok(Cert {
+        entries: Items::new(entries),
+    })
+}
+
+/// The best certificate of a sheet: task by task the least window up to the horizon in ticks, the
+/// points below it with their least ends, and the least bound that serves at every point.
+///
+/// It meets every condition but that on deadlines, and no certificate with numbers up to the horizon
+/// that meets these has a smaller window or bound.
+pub fn analyse<P: Policy, M: Preemption, S: Supply>(
+    alloc: Global,
+    sheet: &Sheet,
+    supply: &S,
+    horizon: u64,
+) -> Result<Cert, AnalyseRefusal>
+    requires horizon { horizon ≤ 1000000000 }
+    requires served { Serves M.cuts sheet.now }
+    ensures best { IfOk result (IsBest P.meaning M.cuts (S.sbf supply.now) sheet.now horizon) }
+    ensures meets { IfOk result (λ cert. failed_of P.meaning M.cuts (S.sbf supply.now) sheet.now false cert ≡ None) }
+    ensures within { IfOk result IsWithinGrammar }
+    ensures up_to { IfOk result (IsUpTo horizon) }
+    ensures least { IfOk result (NoneSmaller P.meaning M.cuts (S.sbf supply.now) sheet.now horizon) }
+    ensures cause { IfErr result (HasCause P.meaning M.cuts (S.sbf supply.now) sheet.now horizon) }
+    ensures exact { IsBestAnswer P.meaning M.cuts (S.sbf supply.now) sheet.now horizon result }
+    ensures none { IfErr result (NoneWhereNoBound P.meaning M.cuts (S.sbf supply.now) sheet.now horizon) }
+{
+    laws::<P, M, S>(sheet, supply);
+    best_cert::<P, M, S>(alloc, sheet, supply, horizon)
+}

@@ -1,0 +1,17 @@
+//! What the searches rest on.
+ghost use Rattle.preemption.specs.CutLaws.{Serves};
+ghost use Rattle.solver.specs.Laws.{Laws};
+
+use policy::Policy;
+use preemption::Preemption;
+use supply::Supply;
+use task_sheet::Sheet;
+
+/// Gives a caller the laws of demand, points and supply, for this sheet and this supply.
+pub fn laws<P: Policy, M: Preemption, S: Supply>(sheet: &Sheet, supply: &S)
+    requires served { Serves M.cuts sheet.now }
+    ensures { Laws P.meaning M.cuts (S.sbf supply.now) sheet.now }
+{
+    let _tasks = sheet.len();
+    supply.known();
+}

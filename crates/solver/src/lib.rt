@@ -1,0 +1,13 @@
+//! The best certificate of a sheet: the least windows, ends and bounds that meet the conditions.
+#![tactic(auto)]
+
+mod analysis;
+mod entries;
+mod laws;
+mod searches;
+
+pub use analysis::{AnalyseRefusal, analyse};
+pub use searches::{least_bound, least_end, least_window};
+
+#[cfg(test)]
+mod tests;

@@ -1,0 +1,96 @@
+//! The least numbers that meet the conditions.
+//!
+//! Each search jumps: what is asked for within a window is supplied at the soonest within the least
+//! window that supplies it, and no window between the two is enough.
+ghost use Rattle.std.specs.Prelude.{◌≤◌, ◌<◌, length};
+ghost use Rattle.lists.specs.Searches.{IsLeastTo};
+ghost use Rattle.preemption.specs.CutLaws.{Serves};
+ghost use Rattle.abstract_rta.specs.Meeting.{IsWindow, MeetsEnd, MeetsBound};
+
+use crate::laws::laws;
+use demand::{need, rest, window_need};
+use policy::Policy;
+use preemption::Preemption;
+use supply::Supply;
+use task_sheet::Sheet;
+
+/// The least window of task `i` up to the horizon, both in ticks, that meets `K3`.
+pub fn least_window<P: Policy, M: Preemption, S: Supply>(
+    sheet: &Sheet,
+    supply: &S,
+    i: u32,
+    horizon: u64,
+) -> Option<u64>
+    requires task { i < length sheet.now.tasks }
+    requires horizon { horizon ≤ 1000000000 }
+    requires served { Serves M.cuts sheet.now }
+    ensures { IsLeastTo (IsWindow P.meaning M.cuts (S.sbf supply.now) sheet.now i) horizon result }
+{
+    laws::<P, M, S>(sheet, supply);
+    let mut window = 1;
+    while window <= horizon {
+        let Some(next) = supply.least(window_need::<P, M>(sheet, i, window), horizon) else {
+            return None;
+        };
+        if next <= window {
+            return Some(window);
+        }
+        window = next;
+    }
+    None
+}
+
+/// The least end up to the limit that meets `K7` for task `i` at offset `a`, all in ticks from the
+/// window's begin.
+pub fn least_end<P: Policy, M: Preemption, S: Supply>(
+    sheet: &Sheet,
+    supply: &S,
+    i: u32,
+    a: u64,
+    limit: u64,
+) -> Option<u64>
+    requires task { i < length sheet.now.tasks }
+    requires offset { a ≤ 1000000000 }
+    requires limit { limit ≤ 1000000000 }
+    requires served { Serves M.cuts sheet.now }
+    ensures { IsLeastTo (MeetsEnd P.meaning M.cuts (S.sbf supply.now) sheet.now i a) limit result }
+{
+    laws::<P, M, S>(sheet, supply);
+    let mut end = 0;
+    while end <= limit {
+        let Some(next) = supply.least(need::<P, M>(sheet, i, a, end), limit) else {
+            return None;
+        };
+        if next <= end {
+            return Some(end);
+        }
+        end = next;
+    }
+    None
+}
+
+/// The least bound in ticks up to the limit that meets `K6` and `K8` for task `i` at offset `a`,
+/// whose end is `x`.
+pub fn least_bound<P: Policy, M: Preemption, S: Supply>(
+    sheet: &Sheet,
+    supply: &S,
+    i: u32,
+    a: u64,
+    x: u64,
+    limit: u64,
+) -> Option<u64>
+    requires task { i < length sheet.now.tasks }
+    requires offset { a ≤ 1000000000 }
+    requires end { x ≤ 1000000000 }
+    requires limit { limit ≤ 1000000000 }
+    requires served { Serves M.cuts sheet.now }
+    ensures { IsLeastTo (MeetsBound P.meaning M.cuts (S.sbf supply.now) sheet.now i a x) limit result }
+{
+    laws::<P, M, S>(sheet, supply);
+    let wanted = need::<P, M>(sheet, i, a, x) + rest::<M>(sheet, i) as u128;
+    let Some(done) = supply.least(wanted, a + limit) else {
+        return None;
+    };
+    let bound = done.max(x).saturating_sub(a);
+    if bound <= limit { Some(bound) } else { None }
+}

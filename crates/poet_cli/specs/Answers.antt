@@ -1,6 +1,7 @@
 use Rattle.std.specs.Prelude.{◌≡◌, ℕ, Bool, List, length, Option, Some, None, Result, Ok, Err, IsOk, nat_le, if◌then◌else◌}
 use Rattle.poet_io.specs.Shelves.{Files, IfTold}
 use Rattle.task_sheet.specs.SheetParts.{SheetParts}
+use Rattle.task_sheet.specs.Sheets.{task_at}
 use Rattle.task_sheet.specs.declared.refusal.SheetRefusal.{SheetRefusal}
 use Rattle.sheet_text.specs.SheetRows.{sheet_of_text}
 use Rattle.policy.specs.Policies.{meaning_of}
@@ -9,17 +10,24 @@ use Rattle.supply.specs.Promises.{sbf_of}
 use Rattle.cert_check.specs.declared.judging.Verdict.{Verdict}
 use Rattle.cert_check.specs.declared.judging.Verdict.TheVariants as verdict
 use Rattle.cert_check.specs.Verdicts.{verdict_of}
+use Rattle.certificate.specs.declared.cert.Cert.{Cert}
+use Rattle.certificate.specs.Text.{text_of}
+use Rattle.solver.specs.declared.analysis.AnalyseRefusal.{AnalyseRefusal}
+use Rattle.solver.specs.declared.analysis.AnalyseRefusal.TheVariants as solver
+use Rattle.solver.specs.Outcome.{best_of}
 use Rattle.poet_cli.specs.declared.refusal.Source.{Source}
 use Rattle.poet_cli.specs.declared.refusal.Source.TheVariants as source
 use Rattle.poet_cli.specs.declared.refusal.Refusal.{Refusal}
-use Rattle.poet_cli.specs.declared.refusal.Refusal.TheVariants.{Usage, Read, Sheet, Text, Limit, Memory}
+use Rattle.poet_cli.specs.declared.refusal.Refusal.TheVariants.{Usage, Read, Sheet, Text, Limit, Points, Memory}
 use Rattle.poet_cli.specs.declared.judged.Judged.{Judged}
 use Rattle.poet_cli.specs.declared.judged.Judged.TheVariants as judged
-use Rattle.poet_cli.specs.Words.{Asked, CheckOf, command_in}
+use Rattle.poet_cli.specs.declared.analysed.Analysed.{Analysed}
+use Rattle.poet_cli.specs.declared.analysed.Analysed.TheVariants as analysed
+use Rattle.poet_cli.specs.Words.{Asked, CheckOf, AnalyseOf, command_in}
 use Rattle.poet_cli.specs.Refusals.{limit_of}
 use Rattle.poet_cli.specs.Endings.{Ending}
-use Rattle.poet_cli.specs.Printing.{output_of}
-use Rattle.poet_cli.specs.Steps.{next}
+use Rattle.poet_cli.specs.Printing.{output_of, analysis_output}
+use Rattle.poet_cli.specs.Steps.{next, IsAt}
 
 -- the bytes of a file, within the limit of its kind
 abbrev pub within : Source → Option (List ℕ) → Result (List ℕ) Refusal
@@ -57,9 +65,37 @@ rest_of sheet deadlines name files = next (judged_in sheet deadlines name files)
 abbrev pub check_answer : List ℕ → List ℕ → Bool → Files → Ending
 check_answer sheet certificate deadlines files = next (sheet_in sheet files) (λ parts. rest_of parts deadlines certificate files)
 
+-- the best certificate up to the horizon, by the sheet's own policy, preemption and supply
+abbrev pub best_for : SheetParts → ℕ → Result Cert AnalyseRefusal
+best_for sheet horizon = best_of (meaning_of sheet.policy) per_task_meaning (sbf_of sheet.supply) sheet horizon
+
+abbrev pub analysed_by : SheetParts → Result Cert AnalyseRefusal → Result Analysed Refusal
+analysed_by sheet (Ok cert) = Ok (analysed.Best (text_of cert))
+analysed_by sheet (Err (solver.NoBound i)) = Ok (analysed.NoBound (task_at sheet i).name)
+analysed_by sheet (Err (solver.Points i)) = Err (Points (task_at sheet i).name)
+analysed_by sheet (Err solver.Memory) = Err Memory
+
+-- why the analysis of a sheet was refused
+abbrev pub IsAnalysisRefusal : SheetParts → ℕ → Refusal → Type 0
+IsAnalysisRefusal sheet horizon Usage = ⊥
+IsAnalysisRefusal sheet horizon (Read which) = ⊥
+IsAnalysisRefusal sheet horizon (Sheet refusal) = ⊥
+IsAnalysisRefusal sheet horizon (Text which line) = ⊥
+IsAnalysisRefusal sheet horizon (Limit which) = ⊥
+IsAnalysisRefusal sheet horizon (Points name) = analysed_by sheet (best_for sheet horizon) ≡ Err (Points name)
+IsAnalysisRefusal sheet horizon Memory = Unit {0}
+
+-- the analysis of the sheet of a file
+abbrev pub analysis_in : List ℕ → ℕ → Files → Result Analysed Refusal
+analysis_in sheet horizon files = next (sheet_in sheet files) (λ parts. analysed_by parts (best_for parts horizon))
+
+abbrev pub analyse_answer : List ℕ → ℕ → Files → Ending
+analyse_answer sheet horizon files = next (analysis_in sheet horizon files) (λ analysed. Ok (analysis_output analysed))
+
 abbrev pub asked_answer : Option Asked → Files → Ending
 asked_answer None files = Err Usage
 asked_answer (Some (CheckOf sheet certificate deadlines)) files = check_answer sheet certificate deadlines files
+asked_answer (Some (AnalyseOf sheet horizon)) files = analyse_answer sheet horizon files
 
 -- the answer of the program to the words, over these files
 abbrev pub answer_of : List (List ℕ) → Files → Ending
@@ -73,11 +109,13 @@ MayFailAfterSheet sheet told (Read source.Certificate) = IfTold told (λ files. 
 MayFailAfterSheet sheet told (Sheet refusal) = Unit {0}
 MayFailAfterSheet sheet told (Text which line) = Unit {0}
 MayFailAfterSheet sheet told (Limit which) = Unit {0}
+MayFailAfterSheet sheet told (Points name) = Unit {0}
 MayFailAfterSheet sheet told Memory = Unit {0}
 
 abbrev pub MayAskedFail : Option Asked → Option Files → Refusal → Type 0
 MayAskedFail None told refusal = refusal ≡ Usage
 MayAskedFail (Some (CheckOf sheet certificate deadlines)) told refusal = MayFailAfterSheet sheet told refusal
+MayAskedFail (Some (AnalyseOf sheet horizon)) told refusal = IsAt source.Sheet refusal
 
 abbrev pub MayFail : List (List ℕ) → Option Files → Refusal → Type 0
 MayFail words told refusal = MayAskedFail (command_in words) told refusal

@@ -1,9 +1,10 @@
-use Rattle.std.specs.Prelude.{◌≡◌, ℕ, Bool, List, length, Option, Some, None, Result, Ok}
+use Rattle.std.specs.Prelude.{◌≡◌, ℕ, Bool, false, List, length, Option, Some, None, Result, Ok}
 use Rattle.poet_io.specs.Shelves.{Files, IfTold}
 use Rattle.task_sheet.specs.SheetParts.{SheetParts}
 use Rattle.sheet_text.specs.SheetRows.{sheet_of_text}
 use Rattle.certificate.specs.declared.cert.Cert.{Cert}
-use Rattle.certificate.specs.Text.{Parses}
+use Rattle.certificate.specs.Text.{IsWithinGrammar, Parses}
+use Rattle.conditions.specs.Conditions.{failed_of}
 use Rattle.policy.specs.Policies.{meaning_of}
 use Rattle.preemption.specs.Kinds.{per_task_meaning}
 use Rattle.supply.specs.Promises.{sbf_of}
@@ -11,7 +12,10 @@ use Rattle.schedule_laws.specs.Bounded.{AreBounded}
 use Rattle.cert_check.specs.Verdicts.{bounds_of}
 use Rattle.poet_cli.specs.declared.judged.Judged.{Judged}
 use Rattle.poet_cli.specs.declared.judged.Judged.TheVariants.{Accepted, Refused}
-use Rattle.poet_cli.specs.Words.{Asked, CheckOf}
+use Rattle.poet_cli.specs.Answers.{best_for}
+use Rattle.poet_cli.specs.declared.analysed.Analysed.{Analysed}
+use Rattle.poet_cli.specs.declared.analysed.Analysed.TheVariants.{Best, NoBound}
+use Rattle.poet_cli.specs.Words.{Asked, CheckOf, AnalyseOf}
 
 -- the file's bytes are a certificate, with a bound for each task, and in every run that complies with the
 -- sheet every job whose arrival plus its task's bound lies within the run is done by then
@@ -31,10 +35,30 @@ pub record HeadlineHolds (sheet_name certificate_name : List ℕ) (files : Files
   pub reads : sheet_of_text bytes ≡ Ok sheet
   pub bounds_hold : BoundsHold sheet certificate_name files
 
+-- the certificate is within the grammar and meets every condition but that on deadlines
+pub record IsAccepted (sheet : SheetParts) (cert : Cert) : Type 0 where
+  pub within : IsWithinGrammar cert
+  pub meets : failed_of (meaning_of sheet.policy) per_task_meaning (sbf_of sheet.supply) sheet false cert ≡ None
+
+-- the best certificate of a sheet is accepted
+pub record BestHolds (sheet : SheetParts) (horizon : ℕ) : Type 0 where
+  pub cert : Cert
+  pub best : best_for sheet horizon ≡ Ok cert
+  pub accepted : IsAccepted sheet cert
+
+-- the bytes of the file are a sheet, and its best certificate up to the horizon is accepted
+pub record AnalysisHolds (name : List ℕ) (horizon : ℕ) (files : Files) : Type 0 where
+  pub bytes : List ℕ
+  pub file : files name ≡ Some bytes
+  pub sheet : SheetParts
+  pub reads : sheet_of_text bytes ≡ Ok sheet
+  pub best_holds : BestHolds sheet horizon
+
 -- what status 0 says of the files
 abbrev pub Headline : Option Asked → Files → Type 0
 Headline None files = ⊥
 Headline (Some (CheckOf sheet certificate deadlines)) files = HeadlineHolds sheet certificate files
+Headline (Some (AnalyseOf sheet horizon)) files = AnalysisHolds sheet horizon files
 
 -- accepted bounds are one for each task, and hold
 abbrev pub IsSoundJudgement : SheetParts → List ℕ → Option Files → Judged → Type 0
@@ -45,3 +69,12 @@ IsSoundJudgement sheet name told (Refused failed) = Unit {0}
 abbrev pub IsPrintable : SheetParts → Judged → Type 0
 IsPrintable sheet (Accepted bounds) = length bounds ≡ length sheet.tasks
 IsPrintable sheet (Refused failed) = Unit {0}
+
+-- a best certificate that was found is accepted
+abbrev pub IsSoundAnalysis : SheetParts → ℕ → Analysed → Type 0
+IsSoundAnalysis sheet horizon (Best text) = BestHolds sheet horizon
+IsSoundAnalysis sheet horizon (NoBound name) = Unit {0}
+
+abbrev pub IsSoundAnalysisOf : List ℕ → ℕ → Option Files → Analysed → Type 0
+IsSoundAnalysisOf name horizon told (Best text) = IfTold told (AnalysisHolds name horizon)
+IsSoundAnalysisOf name horizon told (NoBound task) = Unit {0}

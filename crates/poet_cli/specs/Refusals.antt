@@ -8,7 +8,7 @@ use Rattle.task_sheet.specs.declared.refusal.SheetRefusal.TheVariants as sheet
 use Rattle.poet_cli.specs.declared.refusal.Source.{Source}
 use Rattle.poet_cli.specs.declared.refusal.Source.TheVariants as source
 use Rattle.poet_cli.specs.declared.refusal.Refusal.{Refusal}
-use Rattle.poet_cli.specs.declared.refusal.Refusal.TheVariants.{Usage, Read, Sheet, Text, Limit, Memory}
+use Rattle.poet_cli.specs.declared.refusal.Refusal.TheVariants.{Usage, Read, Sheet, Text, Limit, Points, Memory}
 
 unfoldable pub field_word : Field → List ℕ
 field_word fields.Policy = codes "policy"
@@ -60,6 +60,9 @@ limit_of source.Certificate = 67108864
 abbrev pub limit_line : Source → List ℕ
 limit_line which = codes "limit: " ++ (source_word which ++ (codes " is longer than " ++ (decimal (limit_of which) ++ codes " bytes\n")))
 
+abbrev pub points_line : List ℕ → List ℕ
+points_line name = codes "limit: points exceed 1000000 at task " ++ (name ++ codes "\n")
+
 -- the line of statuses 2, 3 and 5 to 8
 unfoldable pub line_of : Refusal → List ℕ
 line_of Usage =
@@ -68,6 +71,7 @@ line_of (Read which) = codes "read failed: " ++ (source_word which ++ codes "\n"
 line_of (Sheet refusal) = sheet_line refusal
 line_of (Text which line) = source_word which ++ (codes ": line " ++ (decimal line ++ codes " is not of the format\n"))
 line_of (Limit which) = limit_line which
+line_of (Points name) = points_line name
 line_of Memory = codes "memory\n"
 
 -- the line of status 4
@@ -80,4 +84,5 @@ refusal_status (Read which) = 3
 refusal_status (Sheet refusal) = 5
 refusal_status (Text which line) = 6
 refusal_status (Limit which) = 7
+refusal_status (Points name) = 7
 refusal_status Memory = 8

@@ -1,6 +1,8 @@
 //! `poet`: judges bounds on the response times of real-time tasks.
 #![tactic(auto)]
 
+mod analysed;
+mod analysing;
 mod grammar;
 mod judged;
 mod judging;

@@ -4,7 +4,7 @@ ghost use Rattle.poet_io.specs.Sinks.{Wrote};
 ghost use Rattle.task_sheet.specs.Sheets.{task_at};
 ghost use Rattle.poet_cli.specs.Printing.{bound_front, bound_back, bound_line, bounds_text, accepted_text, cond_text as cond_text_of, task_text, point_text, refused_text};
 
-use crate::telling::{write_four, write_six};
+use crate::telling::{write_four, write_six, write_three};
 use conditions::{Cond, Failed};
 use poet_io::{Sink, SinkFault, put_number, write_all};
 use task_sheet::{Sheet, Task};
@@ -89,7 +89,7 @@ fn cond_text(cond: Cond) -> &'static str
 
 /// A task's name, or nothing past the last task.
 #[tactic(auto, unfolding(task_sheet::specs::Sheets::no_task))]
-fn name_at(sheet: &Sheet, i: u32) -> &str
+pub fn name_at(sheet: &Sheet, i: u32) -> &str
     ensures { result.now ≡ (task_at sheet.now i).name }
 {
     if i < sheet.len() {
@@ -135,4 +135,11 @@ pub fn write_refused<O: Sink>(sheet: &Sheet, failed: &Failed, out: &mut O) -> Re
         &digits[..len],
         "\n".as_bytes(),
     )
+}
+
+/// That a task has no bound.
+pub fn write_no_bound<O: Sink>(name: &str, out: &mut O) -> Result<(), SinkFault>
+    ensures { Wrote (O.written out.old) (O.written out.new) (O.faults out.old) (O.faults out.new) (codes "no bound task " ++ (name.now ++ codes " window\n")) result }
+{
+    write_three(out, "no bound task ", name, " window\n")
 }

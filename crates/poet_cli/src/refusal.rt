@@ -2,6 +2,7 @@
 ghost use Rattle.std.specs.Prelude.{◌≡◌};
 ghost use Rattle.poet_cli.specs.Refusals.{refusal_status, source_word, limit_of};
 
+use lists::Text;
 use task_sheet::SheetRefusal;
 
 /// Which file.
@@ -34,7 +35,7 @@ impl Source {
 }
 
 /// Why a command was refused. Each has a status and a line of its own.
-#[derive(Clone, Copy, Debug, PartialEq, Eq)]
+#[derive(Debug, Drop, PartialEq)]
 pub enum Refusal {
     /// The words are not in the grammar.
     Usage,
@@ -45,6 +46,8 @@ pub enum Refusal {
     Text { source: Source, line: u64 },
     /// A file is longer than its limit.
     Limit(Source),
+    /// There are more than 1,000,000 points with those of the task of this name.
+    Points(Text),
     Memory,
 }
 
@@ -57,7 +60,7 @@ impl Refusal {
             Refusal::Read(_) => 3,
             Refusal::Sheet(_) => 5,
             Refusal::Text { .. } => 6,
-            Refusal::Limit(_) => 7,
+            Refusal::Limit(_) | Refusal::Points(_) => 7,
             Refusal::Memory => 8,
         }
     }

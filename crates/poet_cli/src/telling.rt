@@ -1,7 +1,7 @@
 //! The lines of refusals, and how an ending becomes text and a status.
 ghost use Rattle.std.specs.Prelude.{◌≡◌, ◌++◌, ◌≤◌, ℕ, Ok, Err, OnOk, OnErr, Result, take, codes, decimal};
 ghost use Rattle.poet_io.specs.Sinks.{Wrote, Appended, WroteLine};
-ghost use Rattle.poet_cli.specs.Refusals.{field_word as field_word_of, place_text, line_at, sheet_line, limit_line, line_of, write_failed, refusal_status};
+ghost use Rattle.poet_cli.specs.Refusals.{field_word as field_word_of, place_text, line_at, sheet_line, limit_line, points_line, line_of, write_failed, refusal_status};
 ghost use Rattle.poet_cli.specs.Clauses.{Finished};
 
 use crate::refusal::{Refusal, Source};
@@ -181,6 +181,27 @@ fn write_limit<E: Sink>(source: Source, err: &mut E) -> Result<(), SinkFault>
     )
 }
 
+fn write_points<E: Sink>(name: &str, err: &mut E) -> Result<(), SinkFault>
+    ensures { Wrote (E.written err.old) (E.written err.new) (E.faults err.old) (E.faults err.new) (points_line name.now) result }
+{
+    write_three(err, "limit: points exceed 1000000 at task ", name, "\n")
+}
+
+/// Three pieces.
+pub fn write_three<'a, O: Sink>(
+    out: &mut O,
+    first: &'a str,
+    second: &'a str,
+    third: &'a str,
+) -> Result<(), SinkFault>
+    ensures { Wrote (O.written out.old) (O.written out.new) (O.faults out.old) (O.faults out.new) (first.now ++ (second.now ++ third.now)) result }
+{
+    write_parts(
+        out,
+        &[first.as_bytes(), second.as_bytes(), third.as_bytes()],
+    )
+}
+
 /// Four pieces of one lifetime.
 pub fn write_four<'a, O: Sink>(
     out: &mut O,
@@ -217,6 +238,7 @@ fn write_refusal<E: Sink>(refusal: &Refusal, err: &mut E) -> Result<(), SinkFaul
             " is not of the format\n",
         ),
         Refusal::Limit(source) => write_limit(*source, err),
+        Refusal::Points(name) => write_points(name.as_str(), err),
         Refusal::Memory => write_all(err, "memory\n".as_bytes()),
     }
 }

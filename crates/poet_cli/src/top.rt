@@ -1,21 +1,23 @@
 //! The top call.
-ghost use Rattle.std.specs.Prelude.{◌≡◌, ◌≢◌, ◌↔◌, Ok, None, map, string_bytes};
+ghost use Rattle.std.specs.Prelude.{◌≡◌, ◌≢◌, ◌↔◌, ◌≤◌, Ok, None, map, string_bytes};
 ghost use Rattle.poet_io.specs.Shelves.{IfTold};
 ghost use Rattle.poet_cli.specs.Words.{command_in};
 ghost use Rattle.poet_cli.specs.Steps.{IsAt};
-ghost use Rattle.poet_cli.specs.Answers.{answer_of, rest_of, check_answer, MayFail, MayFailAfterSheet};
+ghost use Rattle.poet_cli.specs.Answers.{answer_of, rest_of, check_answer, analyse_answer, MayFail, MayFailAfterSheet};
 ghost use Rattle.poet_cli.specs.Clauses.{Answers, Told};
-ghost use Rattle.poet_cli.specs.Printing.{output_of};
-ghost use Rattle.poet_cli.specs.Headline.{Headline, HeadlineHolds, BoundsHold, IsPrintable};
+ghost use Rattle.poet_cli.specs.Printing.{output_of, analysis_output};
+ghost use Rattle.poet_cli.specs.Headline.{Headline, HeadlineHolds, BoundsHold, AnalysisHolds, IsPrintable};
 
+use crate::analysed::Analysed;
+use crate::analysing::analysis_at;
 use crate::grammar::{Command, command_of};
 use crate::judged::Judged;
 use crate::judging::judged_at;
-use crate::printing::{write_accepted, write_refused};
+use crate::printing::{write_accepted, write_no_bound, write_refused};
 use crate::reading::sheet_at;
 use crate::refusal::{Refusal, Source};
 use crate::telling::{finish, tell_refusal};
-use poet_io::{Shelf, Sink};
+use poet_io::{Shelf, Sink, write_all};
 use std::alloc::Global;
 use task_sheet::Sheet;
 
@@ -76,6 +78,40 @@ fn run_check<H: Shelf, O: Sink, E: Sink>(
     }
 }
 
+/// Prints an analysis, and answers the status.
+fn tell_analysed<O: Sink, E: Sink>(analysed: &Analysed, out: &mut O, err: &mut E) -> u8
+    ensures told { Told (Ok (analysis_output analysed.now))
+        (record { out = O.written out.old; out_faults = O.faults out.old; err = E.written err.old; err_faults = E.faults err.old })
+        (record { out = O.written out.new; out_faults = O.faults out.new; err = E.written err.new; err_faults = E.faults err.new }) result }
+{
+    match analysed {
+        Analysed::Best(text) => finish(write_all(out, text.as_slice()), 0, err),
+        Analysed::NoBound(name) => finish(write_no_bound(name.as_str(), out), 1, err),
+    }
+}
+
+/// `analyse`.
+fn run_analyse<H: Shelf, O: Sink, E: Sink>(
+    alloc: Global,
+    sheet: &str,
+    horizon: u64,
+    shelf: &mut H,
+    out: &mut O,
+    err: &mut E,
+) -> u8
+    requires { horizon ≤ 1000000000 }
+    ensures answers { Answers (analyse_answer sheet.now horizon) (IsAt Source.Sheet)
+        (record { files = H.files shelf.old; faults = H.faults shelf.old; sinks = record { out = O.written out.old; out_faults = O.faults out.old; err = E.written err.old; err_faults = E.faults err.old } })
+        (record { files = H.files shelf.new; faults = H.faults shelf.new; sinks = record { out = O.written out.new; out_faults = O.faults out.new; err = E.written err.new; err_faults = E.faults err.new } }) result }
+    ensures headline { result ≡ 0 → IfTold (H.files shelf.old) (AnalysisHolds sheet.now horizon) }
+    ensures seldom { result ≢ 2 }
+{
+    match analysis_at(alloc, shelf, sheet, horizon) {
+        Ok(analysed) => tell_analysed(&analysed, out, err),
+        Err(refusal) => tell_refusal(&refusal, err),
+    }
+}
+
 /// Does what the words ask for, and answers the status.
 ///
 /// `words` are the program's words without its own name. Texts of status 0 and 1 go to `out`; each
@@ -102,5 +138,8 @@ pub fn poet_run<H: Shelf, O: Sink, E: Sink>(
                 deadlines,
             },
         ) => run_check(alloc, sheet, certificate, deadlines, shelf, out, err),
+        Some(Command::Analyse { sheet, horizon }) => run_analyse(
+            alloc, sheet, horizon, shelf, out, err,
+        ),
     }
 }

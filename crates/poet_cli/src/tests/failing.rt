@@ -6,9 +6,6 @@ use poet_io::{MemShelf, MemSink};
 use std::alloc::{AllocError, Global};
 use std::test::Fail;
 
-const USAGE: &str =
-    "usage: poet check SHEET CERT [deadlines] | analyse SHEET HORIZON | simulate SHEET dense N | simulate SHEET seed S N | audit SHEET RUN | report SHEET CERT text|json | exercise S N\n";
-
 const ACCEPTED: &[u8] = b"accepted\ntask a bound 2 deadline 5 met\n";
 
 fn one(alloc: Global, at: u64) -> Result<Vec<u64>, AllocError> {

@@ -28,10 +28,10 @@ pub fn count_points<P: Policy>(sheet: &Sheet, i: u32, window: u64, room: u64) ->
     let mut a = 0;
     while count < room {
         count += 1;
-        let Some(next) = next_point::<P>(sheet, i, a, window) else {
+        let Some(later) = next_point::<P>(sheet, i, a, window) else {
             return Some(count);
         };
-        a = next;
+        a = later;
     }
     None
 }

@@ -1,5 +1,5 @@
 //! Failing files and sinks, limits and words.
-use super::files::{ONE_TASK, ONE_TASK_CERT};
+use super::files::{ONE_TASK, ONE_TASK_CERT, USAGE};
 use super::{list, shelf};
 use crate::top::poet_run;
 use poet_io::{MemShelf, MemSink};

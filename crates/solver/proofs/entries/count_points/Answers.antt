@@ -10,7 +10,7 @@ returns-in_default g c = let e = ap length (from_last g.P.Policy.meaning c.args.
 
 pub loop-count-preserved : goal.loop-count-preserved
 loop-count-preserved g c =
-    let e = ap length (from_next g.P.Policy.meaning c.args.sheet.now c.args.i c.args.window c.loop-count.a c.in-Some.next c.in-Some.ensures) in
+    let e = ap length (from_next g.P.Policy.meaning c.args.sheet.now c.args.i c.args.window c.loop-count.a c.in-Some.later c.in-Some.ensures) in
     record { lies = c.in-Some.ensures.0; room = omega arith; counted = omega arith }
 
 pub returns : goal.returns

@@ -1,4 +1,4 @@
-use Rattle.std.proofs.Common.{◌≡◌, ℕ, ◌<◌, ◌≤◌, Bool, None, List, [], ◌∷◌, length, get_or, map, refl, sym, ◌∙◌, ap, subst, arith}
+use Rattle.std.proofs.Common.{◌≡◌, ℕ, ◌<◌, Bool, None, length, get_or, sym, subst, arith}
 use Rattle.std.proofs.lemmas.List.{get_or-map, length-map}
 use Rattle.std.proofs.lemmas.List.Elements.{All-get_or}
 use Rattle.certificate.specs.declared.cert.Cert.{Cert}
@@ -10,7 +10,7 @@ use Rattle.conditions.specs.Meets.{CertMeets, FailedMeans}
 use Rattle.policy.specs.PolicyMeaning.{PolicyMeaning}
 use Rattle.preemption.specs.CutMeaning.{CutMeaning}
 use Rattle.preemption.specs.CutLaws.{Serves}
-use Rattle.schedule_laws.specs.Bounded.{IsBounded, AreBounded}
+use Rattle.schedule_laws.specs.Bounded.{IsBounded}
 use Rattle.task_sheet.specs.SheetParts.{SheetParts}
 use Rattle.task_sheet.specs.Sheets.{IsValidSheet}
 use Rattle.cert_check.specs.Verdicts.{bounds_of, AreSound}

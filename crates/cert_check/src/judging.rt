@@ -1,8 +1,9 @@
 //! The verdict over the bytes of a certificate.
-ghost use Rattle.std.specs.Prelude.{◌≡◌, IfOk};
+ghost use Rattle.std.specs.Prelude.{◌≡◌, IfOk, None};
 ghost use Rattle.certificate.specs.Text.{IsWithinGrammar};
 ghost use Rattle.preemption.specs.CutLaws.{Serves};
-ghost use Rattle.cert_check.specs.Verdicts.{bounds_of, verdict_of, IsVerdict, IsBoundedBy};
+ghost use Rattle.conditions.specs.Conditions.{failed_of};
+ghost use Rattle.cert_check.specs.Verdicts.{bounds_of, verdict_of, AreSound, IsVerdict, IsBoundedBy};
 
 use abstract_rta::points_bound;
 use certificate::{Cert, CertRefusal, read_cert};
@@ -38,6 +39,29 @@ fn bounds(alloc: Global, cert: &Cert) -> Result<Items<u64>, AllocError>
     Ok(Items::new(bounds))
 }
 
+/// The first condition that a certificate fails to meet for a sheet, with `deadlines` also that each
+/// bound is at most its task's deadline.
+///
+/// Where there is none, the response times of every run that complies with the sheet are bounded by
+/// the certificate's bounds. Its counts and numbers must be within the grammar.
+pub fn judge_cert<P: Policy, M: Preemption, S: Supply>(
+    sheet: &Sheet,
+    supply: &S,
+    cert: &Cert,
+    deadlines: bool,
+) -> Option<Failed>
+    requires fits { IsWithinGrammar cert.now }
+    requires served { Serves M.cuts sheet.now }
+    ensures defined { result ≡ failed_of P.meaning M.cuts (S.sbf supply.now) sheet.now deadlines cert.now }
+    ensures bounded { result ≡ None → AreSound P.meaning M.cuts (S.sbf supply.now) sheet.now (bounds_of cert.now) }
+{
+    supply.known();
+    failed_means::<P, M, S>();
+    points_bound::<P, M, S>();
+    let _tasks = sheet.len();
+    first_failed::<P, M, S>(sheet, supply, cert, deadlines)
+}
+
 /// Judges the text of a certificate for a sheet, and with `deadlines` also that each bound is at
 /// most its task's deadline.
 ///
@@ -61,12 +85,8 @@ pub fn check_cert<P: Policy, M: Preemption, S: Supply>(
         Err(CertRefusal::Text { line }) => return Ok(Verdict::Text { line }),
         Err(CertRefusal::Memory) => return Err(AllocError),
     };
-    if let Some(failed) = first_failed::<P, M, S>(sheet, supply, &cert, deadlines) {
+    if let Some(failed) = judge_cert::<P, M, S>(sheet, supply, &cert, deadlines) {
         return Ok(Verdict::Refused(failed));
     }
-    supply.known();
-    failed_means::<P, M, S>();
-    points_bound::<P, M, S>();
-    let _tasks = sheet.len();
     Ok(Verdict::Accepted(bounds(alloc, &cert)?))
 }

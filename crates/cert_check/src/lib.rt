@@ -3,4 +3,4 @@
 
 mod judging;
 
-pub use judging::{Verdict, check_cert};
+pub use judging::{Verdict, check_cert, judge_cert};

@@ -5,7 +5,8 @@ use Rattle.std.proofs.lemmas.Bool.{cases_Bool}
 use Rattle.std.proofs.lemmas.List.{append-nil}
 use Rattle.std.proofs.lemmas.Bool.Decides.{nat_tests}
 use Rattle.certificate.specs.Text.{text_of, Parses}
-use Rattle.certificate.specs.Reading.{BeginsText, IsRefusedLine, newlines}
+use Rattle.poet_io.specs.RefusedLines.{IsRefusedLine, newlines}
+use Rattle.certificate.specs.Reading.{BeginsText}
 use Rattle.certificate.specs.Steps.{steps_of}
 use Rattle.certificate.specs.Progress.{Progress}
 use Rattle.certificate.specs.declared.cert.Cert.{Cert}
@@ -265,7 +266,7 @@ last_or_none (x ∷ l) = elim (last_or_none l) [
   | inr f ↦ inr (x ∷ f.0, f.1, ap (λ (t : List ℕ). x ∷ t) f.2)
 ]
 
-refused_good : (b : List ℕ) (x n : ℕ) → BeginsText (b ++ x ∷ []) → IsRefusedLine b n → IsRefusedLine (b ++ x ∷ []) (cond (x == 10 && true) (n + 1) n)
+refused_good : (b : List ℕ) (x n : ℕ) → BeginsText (b ++ x ∷ []) → IsRefusedLine BeginsText b n → IsRefusedLine BeginsText (b ++ x ∷ []) (cond (x == 10 && true) (n + 1) n)
 refused_good b x n begins h =
     let long = h.longest b [] (sym (append-nil b)) (begins_front b (x ∷ []) begins) in
     let empty : h.rest ≡ [] = nil_from_length h.rest (omega (arith, ap length h.whole, length-append h.front h.rest)) in
@@ -283,7 +284,7 @@ refused_good b x n begins h =
       ];
     }
 
-refused_bad : (b : List ℕ) (x n : ℕ) → (BeginsText (b ++ x ∷ []) → ⊥) → IsRefusedLine b n → IsRefusedLine (b ++ x ∷ []) n
+refused_bad : (b : List ℕ) (x n : ℕ) → (BeginsText (b ++ x ∷ []) → ⊥) → IsRefusedLine BeginsText b n → IsRefusedLine BeginsText (b ++ x ∷ []) n
 refused_bad b x n bad h = record {
   front = h.front;
   rest = h.rest ++ x ∷ [];
@@ -300,23 +301,23 @@ and_false : (x : Bool) → (x && false) ≡ false
 and_false true = refl
 and_false false = refl
 
-refused_next : (b : List ℕ) (x : ℕ) → IsRefusedLine b (after_bytes beginning b).line → IsRefusedLine (b ++ x ∷ []) (after_bytes beginning (b ++ x ∷ [])).line
+refused_next : (b : List ℕ) (x : ℕ) → IsRefusedLine BeginsText b (after_bytes beginning b).line → IsRefusedLine BeginsText (b ++ x ∷ []) (after_bytes beginning (b ++ x ∷ [])).line
 refused_next b x h =
     let l = after_bytes beginning b in
     let q = (next l.place x).0 in
     let same : (after_bytes beginning (b ++ x ∷ [])).line ≡ cond (x == 10 && is_good_at q.expected) (l.line + 1) l.line = ap (λ (v : Progress). v.line) (after_bytes-append beginning b (x ∷ [])) in
     let place : (after_bytes beginning (b ++ x ∷ [])).place.expected ≡ q.expected = ap (λ (v : Progress). v.place.expected) (after_bytes-append beginning b (x ∷ [])) in
     elim (nothing_or_good q.expected) [
-      | inl nothing ↦ subst (IsRefusedLine (b ++ x ∷ [])) (sym (same ∙ rw (nothing, and_false (x == 10)) refl)) (refused_bad b x l.line (λ begins. good_from_begins (b ++ x ∷ []) begins (place ∙ nothing)) h)
-      | inr good ↦ subst (IsRefusedLine (b ++ x ∷ [])) (sym (same ∙ ap (λ (g : Bool). cond (x == 10 && g) (l.line + 1) l.line) (good_test q.expected good)))
+      | inl nothing ↦ subst (IsRefusedLine BeginsText (b ++ x ∷ [])) (sym (same ∙ rw (nothing, and_false (x == 10)) refl)) (refused_bad b x l.line (λ begins. good_from_begins (b ++ x ∷ []) begins (place ∙ nothing)) h)
+      | inr good ↦ subst (IsRefusedLine BeginsText (b ++ x ∷ [])) (sym (same ∙ ap (λ (g : Bool). cond (x == 10 && g) (l.line + 1) l.line) (good_test q.expected good)))
           (refused_good b x l.line (begins_from_good (b ++ x ∷ []) (λ nothing. good (sym place ∙ nothing))) h)
     ]
 
-refused_from : (done b : List ℕ) → IsRefusedLine done (after_bytes beginning done).line → IsRefusedLine (done ++ b) (after_bytes beginning (done ++ b)).line
-refused_from done [] h = subst (λ (t : List ℕ). IsRefusedLine t (after_bytes beginning t).line) (sym (append-nil done)) h
-refused_from done (x ∷ b) h = subst (λ (t : List ℕ). IsRefusedLine t (after_bytes beginning t).line) (append_assoc done (x ∷ []) b) (refused_from (done ++ x ∷ []) b (refused_next done x h))
+refused_from : (done b : List ℕ) → IsRefusedLine BeginsText done (after_bytes beginning done).line → IsRefusedLine BeginsText (done ++ b) (after_bytes beginning (done ++ b)).line
+refused_from done [] h = subst (λ (t : List ℕ). IsRefusedLine BeginsText t (after_bytes beginning t).line) (sym (append-nil done)) h
+refused_from done (x ∷ b) h = subst (λ (t : List ℕ). IsRefusedLine BeginsText t (after_bytes beginning t).line) (append_assoc done (x ∷ []) b) (refused_from (done ++ x ∷ []) b (refused_next done x h))
 
-pub line_is : (b : List ℕ) → IsRefusedLine b (after_bytes beginning b).line
+pub line_is : (b : List ℕ) → IsRefusedLine BeginsText b (after_bytes beginning b).line
 line_is b = refused_from [] b (record { front = []; rest = []; whole = refl; begins = begins_from_good [] (λ h. cc); longest = λ longer more e _. omega (arith, ap length e, length-append longer more); line = refl })
 
 -- the same, of a value that stands for the bytes
@@ -340,5 +341,5 @@ over_stands l b h = (
   λ parses. ap is_over_at (ap (λ (v : Progress). v.place.expected) h.is ∙ over_from_parses b parses.0 parses.1),
 )
 
-pub line_stands : (l : Progress) (b : List ℕ) → StandsFor l b → IsRefusedLine b l.line
-line_stands l b h = subst (IsRefusedLine b) (ap (λ (v : Progress). v.line) (sym h.is)) (line_is b)
+pub line_stands : (l : Progress) (b : List ℕ) → StandsFor l b → IsRefusedLine BeginsText b l.line
+line_stands l b h = subst (IsRefusedLine BeginsText b) (ap (λ (v : Progress). v.line) (sym h.is)) (line_is b)

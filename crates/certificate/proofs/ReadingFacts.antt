@@ -1,8 +1,10 @@
 -- Any bytes have one reading.
 use Rattle.std.proofs.Common.{◌≡◌, ℕ, ◌+◌, Bool, false, IsTrue, ◌↔◌, List, [], ◌∷◌, ◌++◌, length, refl, sym, ap, subst, ◌∙◌, arith, Result, Ok, Err}
 use Rattle.std.proofs.lemmas.Bool.{both_ways}
+use Rattle.poet_io.proofs.RefusedFacts.{one_refused_line}
 use Rattle.certificate.specs.Text.{Parses, IsWithinGrammar, text_of}
-use Rattle.certificate.specs.Reading.{IsReading, IsRefusedLine, IsRefusedAt, newlines}
+use Rattle.poet_io.specs.RefusedLines.{IsRefusedLine, newlines}
+use Rattle.certificate.specs.Reading.{IsReading, BeginsText, IsRefusedAt}
 use Rattle.certificate.specs.Steps.{steps_of}
 use Rattle.certificate.specs.Parsing.{cert_of_text, entries_of}
 use Rattle.certificate.specs.Machine.{after_bytes, beginning, is_over_at, start, walk}
@@ -15,23 +17,6 @@ use Rattle.certificate.proofs.FieldFacts.{cases}
 use Rattle.certificate.proofs.WalkFacts.{text_walk}
 use Rattle.certificate.proofs.ProgressFacts.{parses_from_over, over_from_parses, over_test, line_is}
 use Rattle.certificate.proofs.StepFacts.{entries_of-steps, one_parse}
-
--- two fronts of one list that are of one length
-same_front : (xs ys us vs : List ℕ) → xs ++ us ≡ ys ++ vs → length xs ≡ length ys → xs ≡ ys
-same_front [] [] us vs e h = refl
-same_front [] (y ∷ ys) us vs e h = absurd (omega arith)
-same_front (x ∷ xs) [] us vs e h = absurd (omega arith)
-same_front (x ∷ xs) (y ∷ ys) us vs e h =
-    let heads : x ≡ y = cc in
-    let tails : xs ++ us ≡ ys ++ vs = cc in
-    let rest : xs ≡ ys = same_front xs ys us vs tails (omega arith) in
-    cc
-
--- bytes have one refused line
-pub one_refused_line : (b : List ℕ) (m n : ℕ) → IsRefusedLine b m → IsRefusedLine b n → m ≡ n
-one_refused_line b m n h k =
-    let front : h.front ≡ k.front = same_front h.front k.front h.rest k.rest (sym h.whole ∙ k.whole) (omega (arith, h.longest k.front k.rest k.whole k.begins, k.longest h.front h.rest h.whole h.begins)) in
-    h.line ∙ ap (λ (l : List ℕ). 1 + newlines l) front ∙ sym k.line
 
 -- the entries that the lines make are those of the certificate whose text the bytes are
 parsed : (b : List ℕ) (c : Cert) → Parses b c → Parses b (record { entries = entries_of (walk [] start b).0 })
@@ -52,7 +37,7 @@ reading_single b (Ok c) (Ok d) h k = ap Ok (one_parse b c d h k)
 reading_single b (Ok c) (Err (Text n)) h k = absurd (k.none c h)
 reading_single b (Ok c) (Err Memory) h k = absurd k
 reading_single b (Err (Text m)) (Ok d) h k = absurd (h.none d k)
-reading_single b (Err (Text m)) (Err (Text n)) h k = ap (λ (n : ℕ). Err (Text n)) (one_refused_line b m n h.line k.line)
+reading_single b (Err (Text m)) (Err (Text n)) h k = ap (λ (n : ℕ). Err (Text n)) (one_refused_line BeginsText b m n h.line k.line)
 reading_single b (Err (Text m)) (Err Memory) h k = absurd k
 reading_single b (Err Memory) s h k = absurd h
 
@@ -61,7 +46,7 @@ pub cert_of_text-reading : (b : List ℕ) (r : Result Cert CertRefusal) → IsRe
 cert_of_text-reading b r h = reading_single b (cert_of_text b) r (reading_exists b) h
 
 -- the bytes that were all fed, and are no certificate's text
-pub refused_all : (b bytes : List ℕ) (over : Bool) (n : ℕ) → b ≡ bytes → (IsTrue over ↔ ((c : Cert) × Parses b c)) → over ≡ false → IsRefusedLine b n → IsRefusedAt bytes n
+pub refused_all : (b bytes : List ℕ) (over : Bool) (n : ℕ) → b ≡ bytes → (IsTrue over ↔ ((c : Cert) × Parses b c)) → over ≡ false → IsRefusedLine BeginsText b n → IsRefusedAt bytes n
 refused_all b bytes over n e h not_over line = subst (λ (t : List ℕ). IsRefusedAt t n) e (record { none = λ c p. absurd (both_ways over not_over (h.1 (c, p))); line = line })
 
 -- what is written is read as it was

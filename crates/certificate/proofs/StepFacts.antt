@@ -5,7 +5,7 @@ use Rattle.std.proofs.lemmas.List.Sums.{fold_push, fold-append}
 use Rattle.std.proofs.lemmas.Bool.{cases_Bool, cases_lt}
 use Rattle.std.specs.List.{flat_map}
 use Rattle.certificate.specs.Text.{Parses, entries_text, entry_line, point_text}
-use Rattle.certificate.specs.Reading.{newlines}
+use Rattle.poet_io.specs.RefusedLines.{newlines}
 use Rattle.certificate.specs.Steps.{steps_of, entries_steps, point_step}
 use Rattle.certificate.specs.Parsing.{with_point, add_point, add_step, entries_of}
 use Rattle.certificate.specs.Machine.{start, walk}

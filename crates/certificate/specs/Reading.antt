@@ -1,5 +1,6 @@
 -- What reading a text gives: its certificate, or the line that is refused.
-use Rattle.std.specs.Prelude.{◌≡◌, ◌≢◌, ℕ, ◌+◌, ◌≤◌, ◌==◌, List, ◌++◌, length, count_by, Result, Ok, Err}
+use Rattle.std.specs.Prelude.{◌≡◌, ◌≢◌, ℕ, List, ◌++◌, Result, Ok, Err}
+use Rattle.poet_io.specs.RefusedLines.{IsRefusedLine}
 use Rattle.certificate.specs.Text.{Parses}
 use Rattle.certificate.specs.declared.cert.Cert.{Cert}
 use Rattle.certificate.specs.declared.refusal.CertRefusal.{CertRefusal}
@@ -11,23 +12,10 @@ pub record BeginsText (bytes : List ℕ) : Type 0 where
   pub more : List ℕ
   pub parses : Parses (bytes ++ more) cert
 
--- how many of the bytes are newlines
-abbrev pub newlines : List ℕ → ℕ
-newlines bytes = count_by (λ b. b == 10) bytes
-
--- n is 1 plus the newlines in the longest front of the bytes with which some certificate's text begins
-pub record IsRefusedLine (bytes : List ℕ) (n : ℕ) : Type 0 where
-  pub front : List ℕ
-  pub rest : List ℕ
-  pub whole : bytes ≡ front ++ rest
-  pub begins : BeginsText front
-  pub longest : (longer more : List ℕ) → bytes ≡ longer ++ more → BeginsText longer → length longer ≤ length front
-  pub line : n ≡ 1 + newlines front
-
 -- the bytes are no certificate's text, and n is their refused line
 pub record IsRefusedAt (bytes : List ℕ) (n : ℕ) : Type 0 where
   pub none : (c : Cert) → Parses bytes c → ⊥
-  pub line : IsRefusedLine bytes n
+  pub line : IsRefusedLine BeginsText bytes n
 
 -- reading these bytes gives this; want of memory is no reading
 abbrev pub IsReading : List ℕ → Result Cert CertRefusal → Type 0

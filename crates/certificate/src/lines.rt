@@ -2,7 +2,8 @@
 
 ghost use Rattle.std.specs.Prelude.{◌≡◌, ◌<◌, ◌↔◌, ◌==◌, ◌&&◌, ◌+◌, ℕ, [], ◌∷◌, ◌++◌, List, if◌then◌else◌, IsTrue, slice_index_or};
 ghost use Rattle.certificate.specs.Text.{Parses};
-ghost use Rattle.certificate.specs.Reading.{BeginsText, IsRefusedLine, newlines};
+ghost use Rattle.poet_io.specs.RefusedLines.{IsRefusedLine, newlines};
+ghost use Rattle.certificate.specs.Reading.{BeginsText};
 ghost use Rattle.certificate.specs.Steps.{steps_of};
 ghost use Rattle.certificate.specs.Machine.{StandsFor, after_byte, next, is_good_at};
 ghost use Rattle.certificate.specs.declared.cert.Cert.{Cert};
@@ -91,7 +92,7 @@ impl Lines {
 
     /// The line that a refusal of the bytes so far names, counted from 1.
     pub fn line(&self) -> u64
-        ensures { (b : List ℕ) → StandsFor self.now b → IsRefusedLine b result }
+        ensures { (b : List ℕ) → StandsFor self.now b → IsRefusedLine BeginsText b result }
     {
         self.line
     }

@@ -1,29 +1,12 @@
 //! Writing a certificate.
 
-ghost use Rattle.std.specs.Prelude.{◌≡◌, ◌++◌, ◌∷◌, [], decimal, OnOk, IfOk};
+ghost use Rattle.std.specs.Prelude.{◌≡◌, ◌++◌, OnOk, IfOk};
 ghost use Rattle.std.specs.List.{flat_map};
 ghost use Rattle.certificate.specs.Text.{point_text, entry_line, text_of, IsWithinGrammar};
 
 use crate::cert::{Cert, Entry};
-use poet_io::put_number;
+use poet_io::push_field;
 use std::alloc::{AllocError, Global};
-
-fn push_number(out: &mut Vec<u8>, n: u64) -> Result<(), AllocError>
-    ensures { OnOk result (out.new.items ≡ out.old.items ++ decimal n) }
-{
-    let mut digits = [0u8; 20];
-    let len = put_number(n, &mut digits);
-    out.extend_from_slice(&digits[..len])
-}
-
-/// Appends a number and the byte behind it.
-fn push_field(out: &mut Vec<u8>, n: u64, ender: u8) -> Result<(), AllocError>
-    ensures { OnOk result (out.new.items ≡ out.old.items ++ (decimal n ++ ender ∷ [])) }
-{
-    push_number(out, n)?;
-    out.push(ender)?;
-    Ok(())
-}
 
 fn push_point(out: &mut Vec<u8>, point: (u64, u64)) -> Result<(), AllocError>
     ensures { OnOk result (out.new.items ≡ out.old.items ++ point_text point) }

@@ -18,16 +18,15 @@ use Rattle.solver.specs.Outcome.{best_of}
 use Rattle.poet_cli.specs.declared.refusal.Source.{Source}
 use Rattle.poet_cli.specs.declared.refusal.Source.TheVariants as source
 use Rattle.poet_cli.specs.declared.refusal.Refusal.{Refusal}
-use Rattle.poet_cli.specs.declared.refusal.Refusal.TheVariants.{Usage, Read, Sheet, Text, Limit, Points, Memory}
+use Rattle.poet_cli.specs.declared.refusal.Refusal.TheVariants.{Usage, Read, Sheet, Text, Limit, Points, Jobs, Segments, Memory}
 use Rattle.poet_cli.specs.declared.judged.Judged.{Judged}
 use Rattle.poet_cli.specs.declared.judged.Judged.TheVariants as judged
 use Rattle.poet_cli.specs.declared.analysed.Analysed.{Analysed}
 use Rattle.poet_cli.specs.declared.analysed.Analysed.TheVariants as analysed
-use Rattle.poet_cli.specs.Words.{Asked, CheckOf, AnalyseOf, command_in}
 use Rattle.poet_cli.specs.Refusals.{limit_of}
 use Rattle.poet_cli.specs.Endings.{Ending}
 use Rattle.poet_cli.specs.Printing.{output_of, analysis_output}
-use Rattle.poet_cli.specs.Steps.{next, IsAt}
+use Rattle.poet_cli.specs.Steps.{next}
 
 -- the bytes of a file, within the limit of its kind
 abbrev pub within : Source → Option (List ℕ) → Result (List ℕ) Refusal
@@ -83,6 +82,8 @@ IsAnalysisRefusal sheet horizon (Sheet refusal) = ⊥
 IsAnalysisRefusal sheet horizon (Text which line) = ⊥
 IsAnalysisRefusal sheet horizon (Limit which) = ⊥
 IsAnalysisRefusal sheet horizon (Points name) = analysed_by sheet (best_for sheet horizon) ≡ Err (Points name)
+IsAnalysisRefusal sheet horizon Jobs = ⊥
+IsAnalysisRefusal sheet horizon Segments = ⊥
 IsAnalysisRefusal sheet horizon Memory = Unit {0}
 
 -- the analysis of the sheet of a file
@@ -92,30 +93,16 @@ analysis_in sheet horizon files = next (sheet_in sheet files) (λ parts. analyse
 abbrev pub analyse_answer : List ℕ → ℕ → Files → Ending
 analyse_answer sheet horizon files = next (analysis_in sheet horizon files) (λ analysed. Ok (analysis_output analysed))
 
-abbrev pub asked_answer : Option Asked → Files → Ending
-asked_answer None files = Err Usage
-asked_answer (Some (CheckOf sheet certificate deadlines)) files = check_answer sheet certificate deadlines files
-asked_answer (Some (AnalyseOf sheet horizon)) files = analyse_answer sheet horizon files
-
--- the answer of the program to the words, over these files
-abbrev pub answer_of : List (List ℕ) → Files → Ending
-answer_of words files = asked_answer (command_in words) files
-
--- which refusals may come whatever the shelf tells, of a command that reads a sheet and then a certificate
-abbrev pub MayFailAfterSheet : List ℕ → Option Files → Refusal → Type 0
-MayFailAfterSheet sheet told Usage = ⊥
-MayFailAfterSheet sheet told (Read source.Sheet) = Unit {0}
-MayFailAfterSheet sheet told (Read source.Certificate) = IfTold told (λ files. IsOk (sheet_in sheet files))
-MayFailAfterSheet sheet told (Sheet refusal) = Unit {0}
-MayFailAfterSheet sheet told (Text which line) = Unit {0}
-MayFailAfterSheet sheet told (Limit which) = Unit {0}
-MayFailAfterSheet sheet told (Points name) = Unit {0}
-MayFailAfterSheet sheet told Memory = Unit {0}
-
-abbrev pub MayAskedFail : Option Asked → Option Files → Refusal → Type 0
-MayAskedFail None told refusal = refusal ≡ Usage
-MayAskedFail (Some (CheckOf sheet certificate deadlines)) told refusal = MayFailAfterSheet sheet told refusal
-MayAskedFail (Some (AnalyseOf sheet horizon)) told refusal = IsAt source.Sheet refusal
-
-abbrev pub MayFail : List (List ℕ) → Option Files → Refusal → Type 0
-MayFail words told refusal = MayAskedFail (command_in words) told refusal
+-- which refusals may come whatever the shelf tells, of a command that reads a sheet and then another file
+abbrev pub MayFailAfterSheet : Source → List ℕ → Option Files → Refusal → Type 0
+MayFailAfterSheet other sheet told Usage = ⊥
+MayFailAfterSheet other sheet told (Read source.Sheet) = Unit {0}
+MayFailAfterSheet other sheet told (Read source.Certificate) = (other ≡ source.Certificate) × IfTold told (λ files. IsOk (sheet_in sheet files))
+MayFailAfterSheet other sheet told (Read source.Run) = (other ≡ source.Run) × IfTold told (λ files. IsOk (sheet_in sheet files))
+MayFailAfterSheet other sheet told (Sheet refusal) = Unit {0}
+MayFailAfterSheet other sheet told (Text which line) = Unit {0}
+MayFailAfterSheet other sheet told (Limit which) = Unit {0}
+MayFailAfterSheet other sheet told (Points name) = Unit {0}
+MayFailAfterSheet other sheet told Jobs = Unit {0}
+MayFailAfterSheet other sheet told Segments = Unit {0}
+MayFailAfterSheet other sheet told Memory = Unit {0}

@@ -1,4 +1,6 @@
 use Rattle.std.specs.Prelude.{ℕ, List, [], Result, Ok, Err}
+use Rattle.poet_cli.specs.declared.printed.Printed.{Printed}
+use Rattle.poet_cli.specs.declared.printed.Printed.TheVariants as printed
 use Rattle.poet_cli.specs.declared.refusal.Refusal.{Refusal}
 use Rattle.poet_cli.specs.Refusals.{line_of, refusal_status}
 
@@ -14,6 +16,10 @@ output_status (JudgedNo text) = 1
 abbrev pub output_text : Output → List ℕ
 output_text (Done text) = text
 output_text (JudgedNo text) = text
+
+abbrev pub printed_output : Printed → Output
+printed_output (printed.Done text) = Done text
+printed_output (printed.JudgedNo text) = JudgedNo text
 
 -- how a command ends: it prints, or it is refused
 abbrev pub Ending : Type 0

@@ -4,5 +4,10 @@ pub mod Endings
 pub mod Steps
 pub mod Clauses
 pub mod Printing
+pub mod RunPrinting
 pub mod Answers
+pub mod RunAnswers
+pub mod ReportAnswers
+pub mod ExerciseAnswers
+pub mod Program
 pub mod Headline

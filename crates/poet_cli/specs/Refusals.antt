@@ -8,7 +8,7 @@ use Rattle.task_sheet.specs.declared.refusal.SheetRefusal.TheVariants as sheet
 use Rattle.poet_cli.specs.declared.refusal.Source.{Source}
 use Rattle.poet_cli.specs.declared.refusal.Source.TheVariants as source
 use Rattle.poet_cli.specs.declared.refusal.Refusal.{Refusal}
-use Rattle.poet_cli.specs.declared.refusal.Refusal.TheVariants.{Usage, Read, Sheet, Text, Limit, Points, Memory}
+use Rattle.poet_cli.specs.declared.refusal.Refusal.TheVariants.{Usage, Read, Sheet, Text, Limit, Points, Jobs, Segments, Memory}
 
 unfoldable pub field_word : Field → List ℕ
 field_word fields.Policy = codes "policy"
@@ -51,11 +51,13 @@ sheet_line sheet.Memory = codes "memory\n"
 abbrev pub source_word : Source → List ℕ
 source_word source.Sheet = codes "sheet"
 source_word source.Certificate = codes "certificate"
+source_word source.Run = codes "run"
 
 -- the longest file of each kind, in bytes
 abbrev pub limit_of : Source → ℕ
 limit_of source.Sheet = 1048576
 limit_of source.Certificate = 67108864
+limit_of source.Run = 67108864
 
 abbrev pub limit_line : Source → List ℕ
 limit_line which = codes "limit: " ++ (source_word which ++ (codes " is longer than " ++ (decimal (limit_of which) ++ codes " bytes\n")))
@@ -72,6 +74,8 @@ line_of (Sheet refusal) = sheet_line refusal
 line_of (Text which line) = source_word which ++ (codes ": line " ++ (decimal line ++ codes " is not of the format\n"))
 line_of (Limit which) = limit_line which
 line_of (Points name) = points_line name
+line_of Jobs = codes "limit: jobs exceed 20000\n"
+line_of Segments = codes "limit: segments exceed 1000000\n"
 line_of Memory = codes "memory\n"
 
 -- the line of status 4
@@ -85,4 +89,6 @@ refusal_status (Sheet refusal) = 5
 refusal_status (Text which line) = 6
 refusal_status (Limit which) = 7
 refusal_status (Points name) = 7
+refusal_status Jobs = 7
+refusal_status Segments = 7
 refusal_status Memory = 8

@@ -3,7 +3,7 @@ use Rattle.poet_io.specs.Faults.{Rose}
 use Rattle.poet_io.specs.Shelves.{Files, IfTold, IsTold}
 use Rattle.poet_cli.specs.declared.refusal.Source.{Source}
 use Rattle.poet_cli.specs.declared.refusal.Refusal.{Refusal}
-use Rattle.poet_cli.specs.declared.refusal.Refusal.TheVariants.{Usage, Read, Sheet, Text, Limit, Points, Memory}
+use Rattle.poet_cli.specs.declared.refusal.Refusal.TheVariants.{Usage, Read, Sheet, Text, Limit, Points, Jobs, Segments, Memory}
 
 -- what comes next, unless it was refused: the order of these is the order of refusals
 abbrev pub next : {A B : Type 0} → Result A Refusal → (A → Result B Refusal) → Result B Refusal
@@ -18,6 +18,8 @@ Denied answer told before now (Sheet refusal) = IfTold told (λ files. answer fi
 Denied answer told before now (Text which line) = IfTold told (λ files. answer files ≡ Err (Text which line))
 Denied answer told before now (Limit which) = IfTold told (λ files. answer files ≡ Err (Limit which))
 Denied answer told before now (Points name) = IfTold told (λ files. answer files ≡ Err (Points name))
+Denied answer told before now Jobs = IfTold told (λ files. answer files ≡ Err Jobs)
+Denied answer told before now Segments = IfTold told (λ files. answer files ≡ Err Segments)
 Denied answer told before now Memory = Unit {0}
 
 -- what a step gives, where its answer is this function of the files and these refusals may come
@@ -33,4 +35,6 @@ IsAt here (Sheet refusal) = Unit {0}
 IsAt here (Text which line) = Unit {0}
 IsAt here (Limit which) = Unit {0}
 IsAt here (Points name) = Unit {0}
+IsAt here Jobs = Unit {0}
+IsAt here Segments = Unit {0}
 IsAt here Memory = Unit {0}

@@ -1,44 +1,110 @@
 use Rattle.std.specs.Prelude.{◌≡◌, ◌≤◌, ◌&&◌, List, [], ◌∷◌, ℕ, Bool, true, false, Option, Some, None, codes, decimal, bytes_eq, nat_le, if◌then◌else◌}
 use Rattle.std.specs.Str.Parse.{digits_value}
+use Rattle.simulated_run.specs.declared.mode.Mode.{Mode}
+use Rattle.simulated_run.specs.declared.mode.Mode.TheVariants.{Dense, Seed}
+use Rattle.poet_cli.specs.declared.grammar.Form.{Form}
+use Rattle.poet_cli.specs.declared.grammar.Form.TheVariants as forms
 use Rattle.poet_cli.specs.declared.grammar.Command.{Command}
-use Rattle.poet_cli.specs.declared.grammar.Command.TheVariants.{Check, Analyse}
+use Rattle.poet_cli.specs.declared.grammar.Command.TheVariants.{Check, Analyse, Simulate, Audit, Report, Exercise}
 
 -- a command, with its words
 pub data Asked : Type 0 where
   CheckOf : List ℕ → List ℕ → Bool → Asked
   AnalyseOf : List ℕ → ℕ → Asked
+  SimulateOf : List ℕ → Mode → ℕ → Asked
+  AuditOf : List ℕ → List ℕ → Asked
+  ReportOf : List ℕ → List ℕ → Form → Asked
+  ExerciseOf : ℕ → ℕ → Asked
 
--- n, where the word is its canonical decimal and it is in 1..10^9
-abbrev pub horizon_if : List ℕ → ℕ → Option ℕ
-horizon_if word n = if bytes_eq word (decimal n) && (nat_le 1 n && nat_le n 1000000000) then Some n else None
+-- n, where the word is its canonical decimal and it is in low..high
+abbrev pub number_if : ℕ → ℕ → List ℕ → ℕ → Option ℕ
+number_if low high word n = if bytes_eq word (decimal n) && (nat_le low n && nat_le n high) then Some n else None
 
--- the horizon that a word writes
-unfoldable pub horizon_in : List ℕ → Option ℕ
-horizon_in word = horizon_if word (digits_value 10 word)
+-- the number in low..high that a word writes
+unfoldable pub number_in : ℕ → ℕ → List ℕ → Option ℕ
+number_in low high word = number_if low high word (digits_value 10 word)
 
-abbrev pub analyse_in : List ℕ → Option ℕ → Option Asked
-analyse_in sheet None = None
-analyse_in sheet (Some horizon) = Some (AnalyseOf sheet horizon)
+-- a horizon, a number of ticks, a number of tasks, and a seed
+abbrev pub horizon_in : List ℕ → Option ℕ
+horizon_in word = number_in 1 1000000000 word
 
--- the word grammar: check SHEET CERT, or check SHEET CERT deadlines, or analyse SHEET HORIZON
+abbrev pub ticks_in : List ℕ → Option ℕ
+ticks_in word = number_in 1 100000 word
+
+abbrev pub tasks_in : List ℕ → Option ℕ
+tasks_in word = number_in 1 64 word
+
+abbrev pub seed_in : List ℕ → Option ℕ
+seed_in word = number_in 0 18446744073709551615 word
+
+-- the form of a report that a word names
+abbrev pub form_in : List ℕ → Option Form
+form_in word = if bytes_eq word (codes "text") then Some forms.Text else (if bytes_eq word (codes "json") then Some forms.Json else None)
+
+-- what is asked for, where the word before it was read
+abbrev pub given : {A : Type 0} → Option A → (A → Asked) → Option Asked
+given None asked = None
+given (Some x) asked = Some (asked x)
+
+abbrev pub check_in : List ℕ → List ℕ → List ℕ → Option Asked
+check_in sheet certificate last = if bytes_eq last (codes "deadlines") then Some (CheckOf sheet certificate true) else None
+
+abbrev pub exercise_in : Option ℕ → Option ℕ → Option Asked
+exercise_in None tasks = None
+exercise_in (Some seed) tasks = given tasks (ExerciseOf seed)
+
+abbrev pub seeded_in : List ℕ → Option ℕ → Option ℕ → Option Asked
+seeded_in sheet None ticks = None
+seeded_in sheet (Some seed) ticks = given ticks (SimulateOf sheet (Seed seed))
+
+-- check SHEET CERT, analyse SHEET HORIZON, audit SHEET RUN, or exercise S N
+unfoldable pub two_words : List ℕ → List ℕ → List ℕ → Option Asked
+two_words command first second =
+    if bytes_eq command (codes "check") then Some (CheckOf first second false)
+    else (if bytes_eq command (codes "analyse") then given (horizon_in second) (AnalyseOf first)
+    else (if bytes_eq command (codes "audit") then Some (AuditOf first second)
+    else (if bytes_eq command (codes "exercise") then exercise_in (seed_in first) (tasks_in second) else None)))
+
+-- check SHEET CERT deadlines, simulate SHEET dense N, or report SHEET CERT text|json
+unfoldable pub three_words : List ℕ → List ℕ → List ℕ → List ℕ → Option Asked
+three_words command first second third =
+    if bytes_eq command (codes "check") then check_in first second third
+    else (if bytes_eq command (codes "simulate") then (if bytes_eq second (codes "dense") then given (ticks_in third) (SimulateOf first Dense) else None)
+    else (if bytes_eq command (codes "report") then given (form_in third) (ReportOf first second) else None))
+
+-- simulate SHEET seed S N
+unfoldable pub four_words : List ℕ → List ℕ → List ℕ → List ℕ → List ℕ → Option Asked
+four_words command first second third fourth =
+    if bytes_eq command (codes "simulate") && bytes_eq second (codes "seed") then seeded_in first (seed_in third) (ticks_in fourth) else None
+
+-- the word grammar
 abbrev pub command_in : List (List ℕ) → Option Asked
-command_in (command ∷ sheet ∷ third ∷ []) =
-    if bytes_eq command (codes "check") then Some (CheckOf sheet third false)
-    else (if bytes_eq command (codes "analyse") then analyse_in sheet (horizon_in third) else None)
-command_in (command ∷ sheet ∷ certificate ∷ last ∷ []) =
-    if bytes_eq command (codes "check") && bytes_eq last (codes "deadlines") then Some (CheckOf sheet certificate true) else None
+command_in (command ∷ first ∷ second ∷ []) = two_words command first second
+command_in (command ∷ first ∷ second ∷ third ∷ []) = three_words command first second third
+command_in (command ∷ first ∷ second ∷ third ∷ fourth ∷ []) = four_words command first second third fourth
 command_in words = None
 
 abbrev pub asked_by : Command → Asked
 asked_by (Check sheet certificate deadlines) = CheckOf sheet.now certificate.now deadlines
 asked_by (Analyse sheet horizon) = AnalyseOf sheet.now horizon
+asked_by (Simulate sheet mode ticks) = SimulateOf sheet.now mode ticks
+asked_by (Audit sheet run) = AuditOf sheet.now run.now
+asked_by (Report sheet certificate form) = ReportOf sheet.now certificate.now form
+asked_by (Exercise seed tasks) = ExerciseOf seed tasks
 
 -- the command is what the words ask for
-abbrev pub IsCommand : List (List ℕ) → Option Command → Type 0
-IsCommand words None = command_in words ≡ None
-IsCommand words (Some command) = command_in words ≡ Some (asked_by command)
+abbrev pub IsAsked : Option Asked → Option Command → Type 0
+IsAsked asked None = asked ≡ None
+IsAsked asked (Some command) = asked ≡ Some (asked_by command)
 
--- a horizon is at most the greatest one
+abbrev pub IsCommand : List (List ℕ) → Option Command → Type 0
+IsCommand words command = IsAsked (command_in words) command
+
+-- the numbers of a command are in their ranges
 abbrev pub IsInRange : Command → Type 0
 IsInRange (Check sheet certificate deadlines) = Unit {0}
 IsInRange (Analyse sheet horizon) = horizon ≤ 1000000000
+IsInRange (Simulate sheet mode ticks) = ticks ≤ 100000
+IsInRange (Audit sheet run) = Unit {0}
+IsInRange (Report sheet certificate form) = Unit {0}
+IsInRange (Exercise seed tasks) = (1 ≤ tasks) × (tasks ≤ 64)

@@ -1,8 +1,16 @@
 //! The word grammar.
-ghost use Rattle.std.specs.Prelude.{◌≡◌, ◌≤◌, [], ◌∷◌, map, string_bytes, IfSome};
-ghost use Rattle.poet_cli.specs.Words.{horizon_in, IsCommand, IsInRange};
+ghost use Rattle.std.specs.Prelude.{◌≡◌, ◌≤◌, ◌<◌, ◌^◌, [], ◌∷◌, map, string_bytes, IfSome};
+ghost use Rattle.poet_cli.specs.Words.{AnalyseOf, SimulateOf, ReportOf, number_in, horizon_in, ticks_in, tasks_in, seed_in, form_in, given, check_in, exercise_in, seeded_in, two_words, three_words, four_words, IsAsked, IsCommand, IsInRange};
 
 use poet_io::read_number;
+use simulated_run::Mode;
+
+/// The form of a report.
+#[derive(Clone, Copy, Debug, PartialEq, Eq)]
+pub enum Form {
+    Text,
+    Json,
+}
 
 /// What the words ask for.
 #[derive(Clone, Copy, Debug)]
@@ -18,38 +26,189 @@ pub enum Command<'a> {
         sheet: &'a str,
         horizon: u64,
     },
+    /// `simulate SHEET dense N`, or `simulate SHEET seed S N`, with 1..100,000 ticks.
+    Simulate {
+        sheet: &'a str,
+        mode: Mode,
+        ticks: u64,
+    },
+    /// `audit SHEET RUN`.
+    Audit {
+        sheet: &'a str,
+        run: &'a str,
+    },
+    /// `report SHEET CERT text`, or `report SHEET CERT json`.
+    Report {
+        sheet: &'a str,
+        certificate: &'a str,
+        form: Form,
+    },
+    /// `exercise S N`, with 1..64 tasks.
+    Exercise {
+        seed: u64,
+        tasks: u32,
+    },
 }
 
-/// The horizon that a word writes.
-fn horizon_of(word: &str) -> Option<u64>
-    ensures defined { result ≡ horizon_in word.now }
-    ensures few { IfSome result (λ n. n ≤ 1000000000) }
+/// The number in `low..=high` that a word writes.
+fn number_of(word: &str, low: u64, high: u64) -> Option<u64>
+    ensures defined { result ≡ number_in low high word.now }
+    ensures few { IfSome result (λ n. n ≤ high) }
+    ensures some { IfSome result (λ n. low ≤ n) }
 {
     let n = read_number(word.as_bytes())?;
-    if 1 <= n && n <= 1_000_000_000 {
-        Some(n)
+    if low <= n && n <= high { Some(n) } else { None }
+}
+
+/// The form that a word names.
+fn form_of(word: &str) -> Option<Form>
+    ensures { result ≡ form_in word.now }
+{
+    if word == "text" {
+        Some(Form::Text)
+    } else if word == "json" {
+        Some(Form::Json)
     } else {
         None
     }
 }
 
-/// `check` or `analyse`, with two words.
-fn command_of_two<'a>(command: &'a str, sheet: &'a str, third: &'a str) -> Option<Command<'a>>
-    ensures defined { IsCommand (command.now ∷ sheet.now ∷ third.now ∷ []) result }
+/// `check` with a last word.
+fn check_of<'a>(sheet: &'a str, certificate: &'a str, last: &str) -> Option<Command<'a>>
+    ensures defined { IsAsked (check_in sheet.now certificate.now last.now) result }
+    ensures in_range { IfSome result IsInRange }
+{
+    if last == "deadlines" {
+        Some(Command::Check {
+            sheet,
+            certificate,
+            deadlines: true,
+        })
+    } else {
+        None
+    }
+}
+
+fn analyse_of<'a>(sheet: &'a str, horizon: &str) -> Option<Command<'a>>
+    ensures defined { IsAsked (given (horizon_in horizon.now) (AnalyseOf sheet.now)) result }
+    ensures in_range { IfSome result IsInRange }
+{
+    let horizon = number_of(horizon, 1, 1_000_000_000)?;
+    Some(Command::Analyse { sheet, horizon })
+}
+
+fn exercise_of<'a>(seed: &str, tasks: &str) -> Option<Command<'a>>
+    ensures defined { IsAsked (exercise_in (seed_in seed.now) (tasks_in tasks.now)) result }
+    ensures in_range { IfSome result IsInRange }
+{
+    let seed = number_of(seed, 0, u64::MAX)?;
+    let tasks = number_of(tasks, 1, 64)? as u32;
+    Some(Command::Exercise { seed, tasks })
+}
+
+fn dense_of<'a>(sheet: &'a str, ticks: &str) -> Option<Command<'a>>
+    ensures defined { IsAsked (given (ticks_in ticks.now) (SimulateOf sheet.now Mode.Dense)) result }
+    ensures in_range { IfSome result IsInRange }
+{
+    let ticks = number_of(ticks, 1, 100_000)?;
+    let mode = Mode::Dense;
+    Some(Command::Simulate { sheet, mode, ticks })
+}
+
+fn seeded_of<'a>(sheet: &'a str, seed: &str, ticks: &str) -> Option<Command<'a>>
+    ensures defined { IsAsked (seeded_in sheet.now (seed_in seed.now) (ticks_in ticks.now)) result }
+    ensures in_range { IfSome result IsInRange }
+{
+    let seed = number_of(seed, 0, u64::MAX)?;
+    let ticks = number_of(ticks, 1, 100_000)?;
+    let mode = Mode::Seed(seed);
+    Some(Command::Simulate { sheet, mode, ticks })
+}
+
+fn report_of<'a>(sheet: &'a str, certificate: &'a str, form: &str) -> Option<Command<'a>>
+    ensures defined { IsAsked (given (form_in form.now) (ReportOf sheet.now certificate.now)) result }
+    ensures in_range { IfSome result IsInRange }
+{
+    let form = form_of(form)?;
+    Some(Command::Report {
+        sheet,
+        certificate,
+        form,
+    })
+}
+
+/// The commands of two words: `check`, `analyse`, `audit` and `exercise`.
+#[tactic(auto, unfolding(crate::specs::Words::two_words))]
+fn command_of_two<'a>(command: &str, first: &'a str, second: &'a str) -> Option<Command<'a>>
+    ensures defined { IsAsked (two_words command.now first.now second.now) result }
     ensures in_range { IfSome result IsInRange }
 {
     if command == "check" {
         return Some(Command::Check {
-            sheet,
-            certificate: third,
+            sheet: first,
+            certificate: second,
             deadlines: false,
         });
     }
-    if command != "analyse" {
-        return None;
+    if command == "analyse" {
+        return analyse_of(first, second);
     }
-    let horizon = horizon_of(third)?;
-    Some(Command::Analyse { sheet, horizon })
+    if command == "audit" {
+        return Some(Command::Audit {
+            sheet: first,
+            run: second,
+        });
+    }
+    if command == "exercise" {
+        return exercise_of(first, second);
+    }
+    None
+}
+
+/// The commands of three words: `check` with `deadlines`, `simulate` with `dense`, and `report`.
+#[tactic(auto, unfolding(crate::specs::Words::three_words))]
+fn command_of_three<'a>(
+    command: &str,
+    first: &'a str,
+    second: &'a str,
+    third: &str,
+) -> Option<Command<'a>>
+    ensures defined { IsAsked (three_words command.now first.now second.now third.now) result }
+    ensures in_range { IfSome result IsInRange }
+{
+    if command == "check" {
+        return check_of(first, second, third);
+    }
+    if command == "simulate" {
+        return if second == "dense" {
+            dense_of(first, third)
+        } else {
+            None
+        };
+    }
+    if command == "report" {
+        return report_of(first, second, third);
+    }
+    None
+}
+
+/// The command of four words: `simulate` with `seed`.
+#[tactic(auto, unfolding(crate::specs::Words::four_words))]
+fn command_of_four<'a>(
+    command: &str,
+    first: &'a str,
+    second: &str,
+    third: &str,
+    fourth: &str,
+) -> Option<Command<'a>>
+    ensures defined { IsAsked (four_words command.now first.now second.now third.now fourth.now) result }
+    ensures in_range { IfSome result IsInRange }
+{
+    if command == "simulate" && second == "seed" {
+        seeded_of(first, third, fourth)
+    } else {
+        None
+    }
 }
 
 /// The command that the words spell.
@@ -58,18 +217,24 @@ pub fn command_of(words: &[String]) -> Option<Command<'_>>
     ensures in_range { IfSome result IsInRange }
 {
     match words {
-        [command, sheet, third] => command_of_two(command.as_str(), sheet.as_str(), third.as_str()),
-        [command, sheet, certificate, last] => {
-            if command.as_str() == "check" && last.as_str() == "deadlines" {
-                Some(Command::Check {
-                    sheet: sheet.as_str(),
-                    certificate: certificate.as_str(),
-                    deadlines: true,
-                })
-            } else {
-                None
-            }
-        }
+        [command, first, second] => command_of_two(
+            command.as_str(),
+            first.as_str(),
+            second.as_str(),
+        ),
+        [command, first, second, third] => command_of_three(
+            command.as_str(),
+            first.as_str(),
+            second.as_str(),
+            third.as_str(),
+        ),
+        [command, first, second, third, fourth] => command_of_four(
+            command.as_str(),
+            first.as_str(),
+            second.as_str(),
+            third.as_str(),
+            fourth.as_str(),
+        ),
         _ => None,
     }
 }

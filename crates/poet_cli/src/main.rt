@@ -3,12 +3,19 @@
 
 mod analysed;
 mod analysing;
+mod auditing;
+mod exercising;
 mod grammar;
 mod judged;
 mod judging;
+mod printed;
 mod printing;
 mod reading;
 mod refusal;
+mod reported;
+mod reporting;
+mod run_printing;
+mod simulating;
 mod telling;
 mod top;
 

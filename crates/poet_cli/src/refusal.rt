@@ -10,6 +10,7 @@ use task_sheet::SheetRefusal;
 pub enum Source {
     Sheet,
     Certificate,
+    Run,
 }
 
 impl Source {
@@ -20,6 +21,7 @@ impl Source {
         match self {
             Source::Sheet => "sheet",
             Source::Certificate => "certificate",
+            Source::Run => "run",
         }
     }
 
@@ -29,7 +31,7 @@ impl Source {
     {
         match self {
             Source::Sheet => 1_048_576,
-            Source::Certificate => 67_108_864,
+            Source::Certificate | Source::Run => 67_108_864,
         }
     }
 }
@@ -48,6 +50,10 @@ pub enum Refusal {
     Limit(Source),
     /// There are more than 1,000,000 points with those of the task of this name.
     Points(Text),
+    /// The run would have more than 20,000 jobs.
+    Jobs,
+    /// The jobs of the run would have more than 1,000,000 segments.
+    Segments,
     Memory,
 }
 
@@ -60,7 +66,7 @@ impl Refusal {
             Refusal::Read(_) => 3,
             Refusal::Sheet(_) => 5,
             Refusal::Text { .. } => 6,
-            Refusal::Limit(_) | Refusal::Points(_) => 7,
+            Refusal::Limit(_) | Refusal::Points(_) | Refusal::Jobs | Refusal::Segments => 7,
             Refusal::Memory => 8,
         }
     }

@@ -239,6 +239,8 @@ fn write_refusal<E: Sink>(refusal: &Refusal, err: &mut E) -> Result<(), SinkFaul
         ),
         Refusal::Limit(source) => write_limit(*source, err),
         Refusal::Points(name) => write_points(name.as_str(), err),
+        Refusal::Jobs => write_all(err, "limit: jobs exceed 20000\n".as_bytes()),
+        Refusal::Segments => write_all(err, "limit: segments exceed 1000000\n".as_bytes()),
         Refusal::Memory => write_all(err, "memory\n".as_bytes()),
     }
 }

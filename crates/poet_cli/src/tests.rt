@@ -6,10 +6,12 @@ use std::process::Abort;
 use std::test::Fail;
 
 mod analyses;
+mod commands;
 mod failing;
 mod files;
 mod large;
 mod rows;
+mod whole;
 
 /// A sheet and a certificate, and what `check` says of them.
 #[derive(Clone, Copy)]

@@ -5,5 +5,6 @@ pub mod MemFiles
 pub mod MemShelves
 pub mod MemSinks
 pub mod Reads
+pub mod RefusedLines
 pub mod Shelves
 pub mod Sinks

@@ -1,1 +1,9 @@
+pub mod WordFacts
 pub mod StretchFacts
+pub mod LineFacts
+pub mod RestFacts
+pub mod SearchFacts
+pub mod BeginFacts
+pub mod FrontFacts
+pub mod ReadOnFacts
+pub mod ReadingFacts

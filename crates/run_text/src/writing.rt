@@ -1,29 +1,12 @@
 //! Writing a run.
 
-ghost use Rattle.std.specs.Prelude.{◌≡◌, ◌++◌, ◌∷◌, [], decimal, flat_map, OnOk, IfOk};
+ghost use Rattle.std.specs.Prelude.{◌≡◌, ◌++◌, flat_map, OnOk, IfOk};
 ghost use Rattle.run_text.specs.Text.{segment_text, job_line, is_same, stretch, tick_words, stretch_line, with_front, stretches_of, counts_line, text_of, IsWithinLimits};
 
-use poet_io::put_number;
+use poet_io::{push_field, push_number};
 use run_model::{Run, Tick};
 use std::alloc::{AllocError, Global};
 use task_sheet::Job;
-
-fn push_number(out: &mut Vec<u8>, n: u64) -> Result<(), AllocError>
-    ensures { OnOk result (out.new.items ≡ out.old.items ++ decimal n) }
-{
-    let mut digits = [0u8; 20];
-    let len = put_number(n, &mut digits);
-    out.extend_from_slice(&digits[..len])
-}
-
-/// Appends a number and the byte behind it.
-fn push_field(out: &mut Vec<u8>, n: u64, ender: u8) -> Result<(), AllocError>
-    ensures { OnOk result (out.new.items ≡ out.old.items ++ (decimal n ++ ender ∷ [])) }
-{
-    push_number(out, n)?;
-    out.push(ender)?;
-    Ok(())
-}
 
 fn push_segment(out: &mut Vec<u8>, segment: u64) -> Result<(), AllocError>
     ensures { OnOk result (out.new.items ≡ out.old.items ++ segment_text segment) }
@@ -63,7 +46,7 @@ fn push_jobs(out: &mut Vec<u8>, jobs: &[Job]) -> Result<(), AllocError>
 }
 
 /// Whether two ticks are the same.
-fn are_same(left: Tick, right: Tick) -> bool
+pub(crate) fn are_same(left: Tick, right: Tick) -> bool
     ensures { result ≡ is_same left right }
 {
     match (left, right) {

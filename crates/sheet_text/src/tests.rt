@@ -40,6 +40,8 @@ fn with_pieces(alloc: Global, front: &str, piece: &str, count: u32) -> Result<St
 fn refused_sheets(rt: HostRuntime) -> Result<(), Fail> {
     let alloc = rt.alloc();
     let many = with_pieces(alloc, "policy = \"fp\"\n", "[[task]]\n", 257)?;
+    let mut nested = with_pieces(alloc, "policy = ", "[", 80)?;
+    nested.push_str(with_pieces(alloc, "", "]", 80)?.as_str())?;
     let mut deep = with_pieces(alloc, "policy = ", "[", 81)?;
     deep.push_str(with_pieces(alloc, "", "]", 81)?.as_str())?;
     let top = Place::Top;
@@ -71,6 +73,13 @@ fn refused_sheets(rt: HostRuntime) -> Result<(), Fail> {
             SheetRefusal::Range {
                 place: top,
                 field: Field::Task,
+            },
+        ),
+        (
+            nested.as_str(),
+            SheetRefusal::Kind {
+                place: top,
+                field: Field::Policy,
             },
         ),
         (deep.as_str(), SheetRefusal::Text),

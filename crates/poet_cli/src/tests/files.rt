@@ -58,5 +58,22 @@ pub const LONGEST: &str =
 pub const MANY_POINTS: &str =
     "policy = \"fifo\"\n[[task]]\nname = \"u\"\ncost = 2000000\ndeadline = 1000000000\nperiod = 1000000000\n[[task]]\nname = \"v\"\ncost = 1\ndeadline = 2\nperiod = 2\n";
 
+pub const DENSE_RUN: &str =
+    "poet-run 1\njobs 5 ticks 12\nj 0 0 1\nj 1 0 2\nj 0 4 1\nj 1 6 2\nj 0 8 1\nrun 0 1\nrun 1 2\nidle 1\nrun 2 1\nidle 1\nrun 3 2\nrun 4 1\nidle 3\nend\n";
+
+pub const FIXED_SEGMENTS: &str =
+    "policy = \"fp\"\n[[task]]\nname = \"a\"\ncost = 5\ndeadline = 10\npriority = 1\nperiod = 10\npreemption = { fixed = [2, 3] }\n";
+
+pub const FLOATING_SEGMENTS: &str =
+    "policy = \"fp\"\n[[task]]\nname = \"a\"\ncost = 5\ndeadline = 10\npriority = 1\nperiod = 10\npreemption = { floating = 2 }\n";
+
+/// At each tick 10,000 jobs arrive.
+pub const CROWD: &str =
+    "policy = \"fp\"\n[[task]]\nname = \"a\"\ncost = 1\ndeadline = 1\npriority = 1\ncurve = { horizon = 1, steps = [[1, 10000]] }\n";
+
+/// A job has 1,000,001 segments.
+pub const SEGMENTED: &str =
+    "policy = \"fp\"\n[[task]]\nname = \"a\"\ncost = 1000001\ndeadline = 10000000\npriority = 1\nperiod = 10000000\npreemption = { floating = 1 }\n";
+
 pub const USAGE: &str =
     "usage: poet check SHEET CERT [deadlines] | analyse SHEET HORIZON | simulate SHEET dense N | simulate SHEET seed S N | audit SHEET RUN | report SHEET CERT text|json | exercise S N\n";

@@ -1,6 +1,6 @@
 use Rattle.std.proofs.Common.{◌≡◌, ◌++◌, ℕ, List, take}
 use Rattle.certificate.specs.Text.{Parses}
-use Rattle.certificate.specs.Reading.{newlines}
+use Rattle.poet_io.specs.RefusedLines.{newlines}
 use Rattle.certificate.specs.Steps.{steps_of}
 use Rattle.certificate.specs.Parsing.{entries_of}
 use Rattle.certificate.specs.Machine.{StandsFor}

@@ -1,0 +1,12 @@
+pub mod SearchFacts
+pub mod TestFacts
+pub mod FaultFacts
+pub mod VerdictFacts
+pub mod FindingFacts
+pub mod ServedFacts
+pub mod ResponseFacts
+pub mod ReadFacts
+pub mod OrderFacts
+pub mod FrontFacts
+pub mod SegmentFacts
+pub mod WaitFacts

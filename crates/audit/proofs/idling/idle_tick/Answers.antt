@@ -1,0 +1,9 @@
+use Rattle.std.proofs.Common.{arith, below_more}
+use Rattle.std.proofs.lemmas.Bool.{both_ways}
+use Rattle.audit.proofs.idling.idle_tick.Goals as goal
+
+pub loop-t-preserved : goal.loop-t-preserved
+loop-t-preserved c = record { progress = c.serve.ensures; before = below_more _ _ c.loop-t.invariant.before (λ w. both_ways c.is_idle_broken.result c.if-is_idle_broken.false (c.is_idle_broken.ensures.broken.1 w)) }
+
+pub returns : goal.returns
+returns c = λ t b. c.loop-t.invariant.before t (omega arith)

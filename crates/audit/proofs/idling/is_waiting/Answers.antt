@@ -1,0 +1,25 @@
+use Rattle.std.proofs.Common.{refl, ◌∙◌, arith}
+use Rattle.std.proofs.lemmas.Bool.{both_ways}
+use Rattle.run_model.specs.Runs.{IsPending}
+use Rattle.audit.proofs.WaitFacts.{none_waits, none_of_more}
+use Rattle.audit.proofs.idling.is_waiting.Goals as goal
+
+pub loop-o-preserved : goal.loop-o-preserved
+loop-o-preserved c = record {
+  progress = c.front.ensures.progress c.args.t c.loop-o.invariant.progress;
+  tasks = c.front.ensures.tasks ∙ c.loop-o.invariant.tasks;
+  quiet = none_of_more (λ k. IsPending c.args.run.now k c.args.t) c.args.run.now c.loop-o.o c.loop-o.invariant.quiet
+      (none_waits c.args.run.now c.args.t c.loop-o.progress.served.items c.loop-o.o c.front.result c.loop-o.invariant.progress.counted c.front.ensures.front (λ late. both_ways c.has_arrived.result c.if-has_arrived.false (c.has_arrived.ensures.1 late)));
+}
+
+pub returns : goal.returns
+returns c = record {
+  waiting = (
+    (λ t. absurd (cc)),
+    (λ w. absurd (c.loop-o.invariant.quiet _ (omega (arith, c.loop-o.invariant.progress.ready.tasks w.job w.waits.listed)) w.job refl w.waits)),
+  );
+  progress = c.loop-o.invariant.progress;
+}
+
+pub returns-then-has_arrived-clause-progress : goal.returns-then-has_arrived-clause-progress
+returns-then-has_arrived-clause-progress c = c.front.ensures.progress c.args.t c.loop-o.invariant.progress

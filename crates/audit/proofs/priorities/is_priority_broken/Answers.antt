@@ -1,0 +1,27 @@
+use Rattle.std.proofs.Common.{◌≡◌, ◌∙◌, ap, arith}
+use Rattle.std.proofs.lemmas.List.{get_or_read}
+use Rattle.task_sheet.specs.declared.tasks.Job.{Job}
+use Rattle.run_model.specs.Runs.{job_at, tick_at, service_of}
+use Rattle.run_model.specs.declared.run.Tick.TheVariants.{Runs}
+use Rattle.audit.proofs.ReadFacts.{job_read, cut_read}
+use Rattle.audit.proofs.WaitFacts.{broken_from, broken_to}
+use Rattle.audit.proofs.priorities.is_priority_broken.Goals as goal
+
+pub returns-then-cuttable-clause-broken : goal.returns-then-cuttable-clause-broken
+returns-then-cuttable-clause-broken g c =
+    let p = g.P.Policy.meaning in
+    let m = g.M.Preemption.cuts in
+    let sheet = c.args.sheet.now in
+    let run = c.args.run.now in
+    let t = c.args.t in
+    let k = c.in-Runs.k in
+    let runs : tick_at run t ≡ Runs k = cc in
+    let listed = c.requires.small.named t k runs in
+    let job : c.index-as_slice-k.result ≡ job_at run k = job_read run c.as_slice-2.result.now k c.index-as_slice-k.result listed c.as_slice-2.ensures c.index-as_slice-k.is in
+    let counted = c.requires.progress.counted in
+    let service : c.index.result.now ≡ service_of run k t = get_or_read c.args.progress.now.served.items k c.index.result.now (omega (arith, counted.count, listed)) c.index.ensures 0 ∙ counted.each k listed in
+    let cut = cut_read m sheet run t k c.index.result.now c.task.result.now c.index-as_slice-k.result c.cuttable.result c.cuttable.ensures c.task.ensures.task job service ∙ c.if-cuttable.true in
+    let key : c.key.result ≡ p.key sheet (job_at run k) = c.key.ensures ∙ ap (λ (j : Job). p.key sheet j) job in (
+      (λ over. broken_from p m sheet run t k c.key.result runs cut key (c.is_overtaken.ensures.overtaken.0 over)),
+      (λ w. c.is_overtaken.ensures.overtaken.1 (broken_to p m sheet run t k c.key.result runs key w)),
+    )

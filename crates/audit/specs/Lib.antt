@@ -1,0 +1,6 @@
+pub mod Tests
+pub mod Faults
+pub mod Responses
+pub mod Verdicts
+pub mod Relations
+pub mod Fronts

@@ -1,0 +1,68 @@
+-- What the searches rest on.
+use Rattle.std.specs.Prelude.{◌≡◌, ℕ, ◌+◌, ◌<◌, ◌≤◌, List, length, slice_index_or, max, true, false, Option, Some, None}
+use Rattle.task_sheet.specs.SheetParts.{SheetParts}
+use Rattle.policy.specs.PolicyMeaning.{PolicyMeaning}
+use Rattle.preemption.specs.CutMeaning.{CutMeaning}
+use Rattle.run_model.specs.declared.run.Run.{Run}
+use Rattle.run_model.specs.declared.run.Tick.TheVariants.{Runs}
+use Rattle.run_model.specs.Runs.{job_at, tick_at, service_of}
+use Rattle.audit.specs.declared.verdict.Seen.{Seen}
+use Rattle.audit.specs.Tests.{is_done}
+use Rattle.audit.specs.Responses.{since, done_before}
+use Rattle.schedule_laws.specs.Compliance.{JobFits}
+use Rattle.schedule_laws.specs.Tests.{IsValidAt, IsIdleBroken, IsSegmentBroken, IsPriorityBroken}
+
+-- the run is of the size that can be written, and its ticks run its jobs
+pub record IsSmall (run : Run) : Type 0 where
+  pub few_jobs : length run.jobs ≤ 20000
+  pub few_ticks : length run.ticks ≤ 100000
+  pub early : (k : ℕ) → k < length run.jobs → (job_at run k).arrival ≤ 1000000000
+  pub named : (t k : ℕ) → tick_at run t ≡ Runs k → k < length run.jobs
+
+-- every job fits
+abbrev pub AreFitting : CutMeaning → SheetParts → Run → Type 0
+AreFitting m sheet run = (k : ℕ) → k < length run.jobs → JobFits m sheet run k
+
+-- every job needs some service
+abbrev pub ArePositive : Run → Type 0
+ArePositive run = (k : ℕ) → k < length run.jobs → 1 ≤ (job_at run k).cost
+
+-- every tick is valid
+abbrev pub AreValid : Run → Type 0
+AreValid run = (t : ℕ) → t < length run.ticks → IsValidAt run t
+
+-- some job is pending at tick t, which is idle
+pub record IsIdleTick (run : Run) (t : ℕ) : Type 0 where
+  pub job : ℕ
+  pub broken : IsIdleBroken run t job
+
+-- some job is inside a segment at tick t, which is supplied and does not run it
+pub record IsSegmentTick (m : CutMeaning) (sheet : SheetParts) (run : Run) (t : ℕ) : Type 0 where
+  pub job : ℕ
+  pub listed : job < length run.jobs
+  pub broken : IsSegmentBroken m sheet run t job
+
+-- some job is pending at tick t and more urgent than the one that runs there and can be cut
+pub record IsPriorityTick (p : PolicyMeaning) (m : CutMeaning) (sheet : SheetParts) (run : Run) (t : ℕ) : Type 0 where
+  pub job : ℕ
+  pub broken : IsPriorityBroken p m sheet run t job
+
+-- the service of every job before tick t
+pub record IsServed (run : Run) (t : ℕ) (served : List ℕ) : Type 0 where
+  pub count : length served ≡ length run.jobs
+  pub each : (k : ℕ) → k < length run.jobs → slice_index_or served k 0 ≡ service_of run k t
+  pub few : (k : ℕ) → k < length run.jobs → slice_index_or served k 0 ≤ t
+
+-- the response time of job k, if it is done by t
+abbrev pub IsResponse : Run → ℕ → ℕ → Option ℕ → Type 0
+IsResponse run t k None = is_done run k t ≡ false
+IsResponse run t k (Some ticks) = (is_done run k t ≡ true) × (since (job_at run k).arrival (done_before run k (t + 1)) ≡ ticks)
+
+pub record AreResponses (run : Run) (t : ℕ) (responses : List (Option ℕ)) : Type 0 where
+  pub count : length responses ≡ length run.jobs
+  pub each : (k : ℕ) → k < length run.jobs → IsResponse run t k (slice_index_or responses k None)
+
+-- one more job of the task, with its response time if it is done
+abbrev pub with_job : Seen → Option ℕ → Seen
+with_job seen None = record { jobs = seen.jobs + 1; done = seen.done; worst = seen.worst }
+with_job seen (Some ticks) = record { jobs = seen.jobs + 1; done = seen.done + 1; worst = max seen.worst ticks }

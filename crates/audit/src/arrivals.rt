@@ -1,0 +1,37 @@
+//! The jobs in the order of their arrivals.
+ghost use Rattle.std.specs.Prelude.{IfOk, length};
+ghost use Rattle.audit.specs.Fronts.{AreArrivals, IsOrder};
+ghost use Rattle.audit.specs.Relations.{IsSmall};
+
+use run_model::Run;
+use std::alloc::{AllocError, Global};
+
+/// The arrival of a job.
+#[derive(Clone, Copy)]
+pub struct Arrival {
+    pub tick: u64,
+    pub job: u32,
+}
+
+/// The arrivals of all jobs, by their numbers.
+fn listed_arrivals(alloc: Global, run: &Run) -> Result<Vec<Arrival>, AllocError>
+    requires { IsSmall run.now }
+    ensures { IfOk result (λ v. AreArrivals run.now (length run.now.jobs) v.items) }
+{
+    let mut arrivals = Vec::new(alloc);
+    for k in 0..run.jobs.len() as u32 {
+        let tick = run.jobs.as_slice()[k as usize].arrival;
+        arrivals.push(Arrival { tick, job: k })?;
+    }
+    Ok(arrivals)
+}
+
+/// The jobs in the order of their arrivals.
+pub fn arrival_order(alloc: Global, run: &Run) -> Result<Vec<Arrival>, AllocError>
+    requires { IsSmall run.now }
+    ensures { IfOk result (λ v. IsOrder run.now v.items) }
+{
+    let mut order = listed_arrivals(alloc, run)?;
+    order.sort_unstable_by_key(|arrival| arrival.tick);
+    Ok(order)
+}

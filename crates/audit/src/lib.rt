@@ -1,0 +1,23 @@
+//! Judging runs: whether a run complies with its sheet, and else the first rule that it breaks.
+#![tactic(auto)]
+
+mod arrivals;
+mod idling;
+mod jobs;
+mod judging;
+mod laws;
+mod priorities;
+mod progress;
+mod seen;
+mod segments;
+mod services;
+mod ticks;
+mod validity;
+mod verdict;
+
+pub use judging::audit;
+pub use laws::verdict_decides;
+pub use verdict::{AuditVerdict, Rule, Seen};
+
+#[cfg(test)]
+mod tests;

@@ -1,0 +1,78 @@
+//! The rule on segments.
+ghost use Rattle.std.specs.Prelude.{◌≡◌, ◌+◌, ◌<◌, ◌↔◌, IfOk, IsTrue, cond, length, None, Some};
+ghost use Rattle.lists.specs.Searches.{IsFirstBelow};
+ghost use Rattle.preemption.specs.CutLaws.{Serves};
+ghost use Rattle.policy.specs.PolicyLaws.{IsOf};
+ghost use Rattle.run_model.specs.Runs.{job_at, tick_at};
+ghost use Rattle.schedule_laws.specs.Compliance.{can_cut};
+ghost use Rattle.schedule_laws.specs.Tests.{AreOf};
+ghost use Rattle.audit.specs.Fronts.{Leaves, OnlyFails};
+ghost use Rattle.audit.specs.Relations.{IsSmall, IsServed, AreFitting, IsSegmentTick};
+
+use crate::services::{no_service, serve};
+use preemption::Preemption;
+use run_model::{Run, Tick};
+use std::alloc::{AllocError, Global};
+use task_sheet::Sheet;
+
+/// Whether the tick is supplied and does not run the job inside a segment, if there is one.
+fn leaves(tick: Tick, inside: Option<u32>) -> bool
+    ensures { IsTrue result ↔ Leaves tick inside }
+{
+    match (tick, inside) {
+        (Tick::Idle, Some(_)) => true,
+        (Tick::Runs(k), Some(job)) => k != job,
+        (Tick::Off, _) | (_, None) => false,
+    }
+}
+
+/// The job inside a segment after tick `t`, where at most this one was inside before.
+fn inside_after<M: Preemption>(
+    sheet: &Sheet,
+    run: &Run,
+    served: &[u64],
+    inside: Option<u32>,
+    t: u64,
+) -> Option<u32>
+    requires small { IsSmall run.now }
+    requires tasks { AreOf sheet.now run.now }
+    requires tick { t < length run.now.ticks }
+    requires served { IsServed run.now (t + 1) served.now }
+    requires inside { OnlyFails (λ k. can_cut M.cuts sheet.now run.now k t) (length run.now.jobs) inside }
+    requires stays { Leaves (tick_at run.now t) inside → ⊥ }
+    ensures { OnlyFails (λ k. can_cut M.cuts sheet.now run.now k (t + 1)) (length run.now.jobs) result }
+{
+    let Tick::Runs(k) = run.ticks.as_slice()[t as usize] else {
+        return inside;
+    };
+    let job = &run.jobs.as_slice()[k as usize];
+    if M::cuttable(sheet.task(job.task), job, served[k as usize]) {
+        None
+    } else {
+        Some(k)
+    }
+}
+
+/// The least supplied tick that does not run a job inside a segment.
+pub fn segment_tick<M: Preemption>(
+    alloc: Global,
+    sheet: &Sheet,
+    run: &Run,
+) -> Result<Option<u64>, AllocError>
+    requires small { IsSmall run.now }
+    requires fit { AreFitting M.cuts sheet.now run.now }
+    requires served { Serves M.cuts sheet.now }
+    ensures { IfOk result (IsFirstBelow (IsSegmentTick M.cuts sheet.now run.now) (length run.now.ticks)) }
+{
+    let _valid = sheet.len();
+    let mut served = no_service(alloc, run)?;
+    let mut inside = None;
+    for t in 0..run.ticks.len() as u64 {
+        if leaves(run.ticks.as_slice()[t as usize], inside) {
+            return Ok(Some(t));
+        }
+        serve(run, &mut served, t);
+        inside = inside_after::<M>(sheet, run, &served, inside, t);
+    }
+    Ok(None)
+}

@@ -1,0 +1,9 @@
+pub mod LoadFacts
+pub mod WindowFacts
+pub mod CertFacts
+pub mod SegmentFacts
+pub mod JobFacts
+pub mod LimitFacts
+pub mod CountFacts
+pub mod OutcomeFacts
+pub mod BoundFacts

@@ -1,0 +1,89 @@
+-- Every task of a sheet that a seed makes has a small window.
+use Rattle.std.proofs.Common.{◌≡◌, ℕ, zero, suc, ◌+◌, ◌-◌, ◌*◌, ◌/◌, ◌≤◌, ◌==◌, ◌&&◌, Bool, true, false, not, cond, refl, inl, inr, arith}
+use Rattle.std.specs.Prelude.{nat_le}
+use Rattle.std.proofs.lemmas.Bool.{and_parts, and_from, leb-true, le-leb, cases_lt}
+use Rattle.std.proofs.Math.Nat.{mul-div-le}
+use Rattle.lists.specs.Sums.{sum_below, max_below}
+use Rattle.lists.specs.Searches.{IsLeast}
+use Rattle.lists.proofs.SumFacts.{sum_le, sum_bound, sum_add}
+use Rattle.lists.proofs.SearchFacts.{least_true}
+use Rattle.task_sheet.specs.SheetParts.{SheetParts}
+use Rattle.task_sheet.specs.Sheets.{task_at}
+use Rattle.policy.specs.Policies.{edf_meaning}
+use Rattle.preemption.specs.Kinds.{per_task_meaning}
+use Rattle.demand.specs.Demand.{delay_of, class_part_of, window_need_of}
+use Rattle.abstract_rta.specs.Meeting.{IsWindow}
+use Rattle.conditions.specs.Conditions.{is_window}
+use Rattle.generated_sheet.specs.GeneratedSheet.{cost_of, generated_sheet}
+use Rattle.generated_sheet.proofs.WordFacts.{cost_low, cost_high, scale_high}
+use Rattle.generated_sheet.proofs.SheetFacts.{sheet_count}
+use Rattle.exercise.proofs.LoadFacts.{asks_most}
+
+never : (b : Bool) (x : ℕ) → cond {A = ℕ} (b && false) x 0 ≡ 0
+never true x = refl
+never false x = refl
+
+-- no task delays the window
+no_delay : (sheet : SheetParts) (i n : ℕ) → max_below (delay_of edf_meaning per_task_meaning sheet i) n ≡ 0
+no_delay sheet i zero = refl
+no_delay sheet i (suc n) = omega (arith, no_delay sheet i n, never (not (n == i)) (per_task_meaning.longest (task_at sheet n) - 1))
+
+-- the sum of all costs
+abbrev pub costs_of : ℕ → ℕ → ℕ
+costs_of seed n = sum_below (cost_of seed) n
+
+pub costs_low : (seed n : ℕ) → n ≤ costs_of seed n
+costs_low seed zero = omega arith
+costs_low seed (suc n) = omega (arith, costs_low seed n, cost_low seed n)
+
+pub costs_high : (seed n : ℕ) → costs_of seed n ≤ n * 50
+costs_high seed n = sum_bound (cost_of seed) 50 n (λ k b. omega (arith, cost_high seed k, scale_high seed k))
+
+class_most : (seed n i l : ℕ) → 1 ≤ n → sum_below (class_part_of edf_meaning (generated_sheet seed n) i l) n ≤ n * (l / (2 * n)) + costs_of seed n
+class_most seed n i l some =
+    omega (
+      arith,
+      sum_le (class_part_of edf_meaning (generated_sheet seed n) i l) (λ o. l / (2 * n) + cost_of seed o) n (λ o b. asks_most seed n o l some b),
+      sum_add (λ o. l / (2 * n)) (cost_of seed) n,
+      sum_bound (λ o. l / (2 * n)) (l / (2 * n)) n (λ o b. omega arith),
+    )
+
+-- twice the sum of all costs is a window
+need_fits : (seed n i : ℕ) → 1 ≤ n → window_need_of edf_meaning per_task_meaning (generated_sheet seed n) i (2 * costs_of seed n) ≤ 2 * costs_of seed n
+unfolding window_need_of
+need_fits seed n i some =
+    rw (sheet_count seed n)
+    (omega (arith, no_delay (generated_sheet seed n) i n, class_most seed n i (2 * costs_of seed n) some, mul-div-le (2 * costs_of seed n) (2 * n)))
+
+-- the least window, which is small
+pub record HasWindow (seed n i : ℕ) : Type 0 where
+  pub window : ℕ
+  pub small : window ≤ 6400
+  pub least : IsLeast (IsWindow edf_meaning per_task_meaning (λ d. d) (generated_sheet seed n) i) window
+
+module _ (sheet : SheetParts) (i : ℕ) where
+  tells : (l : ℕ) → is_window edf_meaning per_task_meaning (λ d. d) sheet i l ≡ true → IsWindow edf_meaning per_task_meaning (λ d. d) sheet i l
+  tells l h =
+      let parts = and_parts (nat_le 1 l) (nat_le (window_need_of edf_meaning per_task_meaning sheet i l) l) h in
+      record { positive = leb-true _ _ parts.0; enough = leb-true _ _ parts.1 }
+
+  told : (l : ℕ) → IsWindow edf_meaning per_task_meaning (λ d. d) sheet i l → is_window edf_meaning per_task_meaning (λ d. d) sheet i l ≡ true
+  told l w = and_from (nat_le 1 l) (nat_le (window_need_of edf_meaning per_task_meaning sheet i l) l) (le-leb _ _ w.positive) (le-leb _ _ w.enough)
+
+pub has_window : (seed n i : ℕ) → 1 ≤ n → n ≤ 64 → HasWindow seed n i
+has_window seed n i some few =
+    let sheet : SheetParts = generated_sheet seed n in
+    let l : ℕ = 2 * costs_of seed n in
+    let fits : IsWindow edf_meaning per_task_meaning (λ d. d) sheet i l = record { positive = omega (arith, costs_low seed n); enough = need_fits seed n i some } in
+    let found = least_true (is_window edf_meaning per_task_meaning (λ d. d) sheet i) l (told sheet i l fits) in
+    record {
+      window = found.0;
+      small = omega (arith, found.1, costs_high seed n);
+      least = record {
+        holds = tells sheet i found.0 found.2;
+        least = λ k w. elim (cases_lt k found.0) [
+          | inl c ↦ let f = found.3 k c in let t = told sheet i k w in absurd (cc)
+          | inr c ↦ c
+        ];
+      };
+    }

@@ -1,0 +1,14 @@
+use Rattle.std.specs.Prelude.{◌≡◌, ℕ, ◌≤◌, None, Ok}
+use Rattle.certificate.specs.declared.cert.Cert.{Cert}
+use Rattle.simulator.specs.Simulations.{refused_by}
+use Rattle.exercise.specs.Exercises.{best_cert_of, dense_run_of}
+
+-- there is a best certificate, and the dense run passes no limit
+pub record Succeeds (seed tasks : ℕ) : Type 0 where
+  pub cert : Cert
+  pub best : best_cert_of seed tasks ≡ Ok cert
+  pub within_limits : refused_by (dense_run_of seed tasks).jobs ≡ None
+
+-- an exercise of 1 to 64 tasks is never refused
+abbrev pub ExerciseSucceeds : Type 0
+ExerciseSucceeds = (seed tasks : ℕ) → 1 ≤ tasks → tasks ≤ 64 → Succeeds seed tasks

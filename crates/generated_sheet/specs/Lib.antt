@@ -1,0 +1,2 @@
+pub mod GeneratedSheet
+pub mod Laws

@@ -1,0 +1,64 @@
+-- The answers of reports.
+use Rattle.std.specs.Prelude.{ℕ, false, List, Option, Some, None, Result, Ok, Err}
+use Rattle.poet_io.specs.Shelves.{Files}
+use Rattle.task_sheet.specs.SheetParts.{SheetParts}
+use Rattle.policy.specs.Policies.{meaning_of}
+use Rattle.preemption.specs.Kinds.{per_task_meaning}
+use Rattle.supply.specs.Promises.{sbf_of}
+use Rattle.certificate.specs.declared.cert.Cert.{Cert}
+use Rattle.certificate.specs.declared.refusal.CertRefusal.{CertRefusal}
+use Rattle.certificate.specs.declared.refusal.CertRefusal.TheVariants as certs
+use Rattle.certificate.specs.Parsing.{cert_of_text}
+use Rattle.conditions.specs.declared.failed.Failed.{Failed}
+use Rattle.conditions.specs.Conditions.{failed_of}
+use Rattle.report.specs.TextReport.{text_report_of}
+use Rattle.report.specs.JsonReport.{json_report_of}
+use Rattle.poet_cli.specs.declared.grammar.Form.{Form}
+use Rattle.poet_cli.specs.declared.grammar.Form.TheVariants as forms
+use Rattle.poet_cli.specs.declared.refusal.Source.TheVariants as source
+use Rattle.poet_cli.specs.declared.refusal.Refusal.{Refusal}
+use Rattle.poet_cli.specs.declared.refusal.Refusal.TheVariants.{Text, Memory}
+use Rattle.poet_cli.specs.declared.reported.Reported.{Reported}
+use Rattle.poet_cli.specs.declared.reported.Reported.TheVariants as reported
+use Rattle.poet_cli.specs.Endings.{Output, Done, JudgedNo, Ending}
+use Rattle.poet_cli.specs.Printing.{refused_text}
+use Rattle.poet_cli.specs.Steps.{next}
+use Rattle.poet_cli.specs.Answers.{file_in, sheet_in}
+
+abbrev pub cert_read : Result Cert CertRefusal → Result Cert Refusal
+cert_read (Ok cert) = Ok cert
+cert_read (Err (certs.Text line)) = Err (Text source.Certificate line)
+cert_read (Err certs.Memory) = Err Memory
+
+-- the certificate of a file
+abbrev pub cert_in : List ℕ → Files → Result Cert Refusal
+cert_in name files = next (file_in source.Certificate name files) (λ bytes. cert_read (cert_of_text bytes))
+
+-- the bytes of a report
+abbrev pub report_of : Form → SheetParts → Cert → List ℕ
+report_of forms.Text sheet cert = text_report_of sheet cert
+report_of forms.Json sheet cert = json_report_of sheet cert
+
+-- the first condition that the certificate fails to meet, but for that on deadlines
+abbrev pub failed_for : SheetParts → Cert → Option Failed
+failed_for sheet cert = failed_of (meaning_of sheet.policy) per_task_meaning (sbf_of sheet.supply) sheet false cert
+
+-- the report, if no condition fails
+abbrev pub reported_by : Form → SheetParts → Cert → Option Failed → Reported
+reported_by form sheet cert None = reported.Report (report_of form sheet cert)
+reported_by form sheet cert (Some failed) = reported.Refused failed
+
+-- the report on the certificate of a file
+abbrev pub report_in : SheetParts → Form → List ℕ → Files → Result Reported Refusal
+report_in sheet form name files = next (cert_in name files) (λ cert. Ok (reported_by form sheet cert (failed_for sheet cert)))
+
+abbrev pub reported_output : SheetParts → Reported → Output
+reported_output sheet (reported.Report text) = Done text
+reported_output sheet (reported.Refused failed) = JudgedNo (refused_text sheet failed)
+
+-- the answer from the opening of the certificate on
+abbrev pub report_rest : SheetParts → Form → List ℕ → Files → Ending
+report_rest sheet form name files = next (report_in sheet form name files) (λ one. Ok (reported_output sheet one))
+
+abbrev pub report_answer : List ℕ → List ℕ → Form → Files → Ending
+report_answer sheet certificate form files = next (sheet_in sheet files) (λ parts. report_rest parts form certificate files)

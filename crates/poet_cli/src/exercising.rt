@@ -1,0 +1,47 @@
+//! An exercise, up to its printing.
+ghost use Rattle.std.specs.Prelude.{◌≡◌, ◌≤◌, IfOk, IfErr};
+ghost use Rattle.exercise.specs.Exercises.{exercise_of, ExerciseHolds};
+ghost use Rattle.poet_cli.specs.declared.printed.Printed.TheVariants as printed;
+ghost use Rattle.poet_cli.specs.ExerciseAnswers.{exercise_line, IsExerciseRefusal};
+
+use crate::printed::Printed;
+use crate::refusal::Refusal;
+use crate::run_printing::push_counted;
+use exercise::{Exercise, exercise};
+use lists::Items;
+use std::alloc::{AllocError, Global};
+
+/// The line of an exercise.
+#[tactic(auto, unfolding(crate::specs::ExerciseAnswers::exercise_line))]
+fn line_of(alloc: Global, seed: u64, tasks: u32, one: &Exercise) -> Result<Items<u8>, AllocError>
+    ensures { IfOk result (λ text. text ≡ exercise_line seed tasks one.now) }
+{
+    let mut text = Vec::new(alloc);
+    push_counted(&mut text, "exercise seed ", seed)?;
+    push_counted(&mut text, " tasks ", u64::from(tasks))?;
+    push_counted(&mut text, " points ", one.points)?;
+    push_counted(&mut text, " greatest ", one.greatest)?;
+    push_counted(&mut text, " jobs ", one.jobs)?;
+    push_counted(&mut text, " done ", one.done)?;
+    push_counted(&mut text, " worst ", one.worst)?;
+    text.extend_from_slice("\n".as_bytes())?;
+    Ok(Items::new(text))
+}
+
+/// What is printed of an exercise.
+pub fn exercise_print(alloc: Global, seed: u64, tasks: u32) -> Result<Printed, Refusal>
+    requires some { 1 ≤ tasks }
+    requires few { tasks ≤ 64 }
+    ensures exact { IfOk result (λ print. print ≡ printed.Done (exercise_line seed tasks (exercise_of seed tasks))) }
+    ensures refused { IfErr result IsExerciseRefusal }
+    ensures sound { IfOk result (λ print. ExerciseHolds seed tasks) }
+{
+    let one = match exercise(alloc, seed, tasks) {
+        Ok(one) => one,
+        Err(_) => return Err(Refusal::Memory),
+    };
+    match line_of(alloc, seed, tasks, &one) {
+        Ok(text) => Ok(Printed::Done(text)),
+        Err(_) => Err(Refusal::Memory),
+    }
+}

@@ -1,0 +1,11 @@
+//! What a command prints.
+use lists::Items;
+
+/// The text that a command prints, made in memory.
+#[derive(Debug, Drop, PartialEq)]
+pub enum Printed {
+    /// It did what was asked, with status 0.
+    Done(Items<u8>),
+    /// It judged no, with status 1.
+    JudgedNo(Items<u8>),
+}

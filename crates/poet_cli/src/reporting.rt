@@ -1,0 +1,85 @@
+//! The report on a certificate, up to its printing.
+ghost use Rattle.std.specs.Prelude.{◌≡◌, ◌≤◌, Ok, None, IfOk};
+ghost use Rattle.certificate.specs.Text.{IsWithinGrammar};
+ghost use Rattle.policy.specs.Policies.{meaning_of};
+ghost use Rattle.preemption.specs.Kinds.{per_task_meaning};
+ghost use Rattle.supply.specs.Promises.{sbf_of};
+ghost use Rattle.cert_check.specs.Verdicts.{bounds_of, AreSound};
+ghost use Rattle.poet_cli.specs.Steps.{Got, IsAt};
+ghost use Rattle.poet_cli.specs.ReportAnswers.{failed_for, reported_by, report_in};
+ghost use Rattle.poet_cli.specs.Headline.{IsSoundReport, IsSoundReportOf};
+
+use crate::grammar::Form;
+use crate::reading::read_file;
+use crate::refusal::{Refusal, Source};
+use crate::reported::Reported;
+use cert_check::judge_cert;
+use certificate::{Cert, CertRefusal, read_cert};
+use conditions::Failed;
+use lists::Items;
+use poet_io::Shelf;
+use policy::{Edf, Fifo, Fp};
+use preemption::PerTask;
+use report::{json_report, text_report};
+use std::alloc::{AllocError, Global};
+use task_sheet::{PolicyKind, Sheet};
+
+/// The first condition that a certificate fails to meet, by the sheet's own policy, preemption and
+/// supply.
+fn first_failed(sheet: &Sheet, cert: &Cert) -> Option<Failed>
+    requires { IsWithinGrammar cert.now }
+    ensures defined { result ≡ failed_for sheet.now cert.now }
+    ensures bounded { result ≡ None → AreSound (meaning_of sheet.now.policy) per_task_meaning (sbf_of sheet.now.supply) sheet.now (bounds_of cert.now) }
+{
+    match sheet.policy() {
+        PolicyKind::Fp => judge_cert::<Fp, PerTask, Sheet>(sheet, sheet, cert, false),
+        PolicyKind::Edf => judge_cert::<Edf, PerTask, Sheet>(sheet, sheet, cert, false),
+        PolicyKind::Fifo => judge_cert::<Fifo, PerTask, Sheet>(sheet, sheet, cert, false),
+    }
+}
+
+/// The report on a certificate, or the first condition that fails.
+fn reported(alloc: Global, sheet: &Sheet, cert: &Cert, form: Form) -> Result<Reported, AllocError>
+    requires { IsWithinGrammar cert.now }
+    ensures exact { IfOk result (λ one. one ≡ reported_by form sheet.now cert.now (failed_for sheet.now cert.now)) }
+    ensures sound { IfOk result (IsSoundReport sheet.now cert.now) }
+{
+    if let Some(failed) = first_failed(sheet, cert) {
+        return Ok(Reported::Refused(failed));
+    }
+    let text = match form {
+        Form::Text => text_report(alloc, sheet, cert)?,
+        Form::Json => json_report(alloc, sheet, cert)?,
+    };
+    Ok(Reported::Report(Items::new(text)))
+}
+
+/// Reports on the certificate of a file.
+pub fn report_at<H: Shelf>(
+    alloc: Global,
+    shelf: &mut H,
+    sheet: &Sheet,
+    name: &str,
+    form: Form,
+) -> Result<Reported, Refusal>
+    ensures files { H.files shelf.new ≡ H.files shelf.old }
+    ensures later { H.faults shelf.old ≤ H.faults shelf.new }
+    ensures got { Got (report_in sheet.now form name.now) (IsAt Source.Certificate) (H.files shelf.old) (H.faults shelf.old) (H.faults shelf.new) result }
+    ensures sound { IfOk result (IsSoundReportOf sheet.now name.now (H.files shelf.old)) }
+{
+    let bytes = read_file(alloc, shelf, name, Source::Certificate)?;
+    let cert = match read_cert(alloc, &bytes) {
+        Ok(cert) => cert,
+        Err(CertRefusal::Text { line }) => {
+            return Err(Refusal::Text {
+                source: Source::Certificate,
+                line,
+            });
+        }
+        Err(CertRefusal::Memory) => return Err(Refusal::Memory),
+    };
+    match reported(alloc, sheet, &cert, form) {
+        Ok(one) => Ok(one),
+        Err(_) => Err(Refusal::Memory),
+    }
+}

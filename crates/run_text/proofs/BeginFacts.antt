@@ -1,0 +1,239 @@
+-- With which bytes a line that may come begins.
+use Rattle.std.proofs.Common.{◌≡◌, ℕ, suc, ◌-◌, ◌<◌, ◌≤◌, ◌⊎◌, ◌==◌, false, cond, List, [], ◌∷◌, ◌++◌, length, codes, refl, sym, ap, subst, ◌∙◌, arith, Option, Some, None, inl, inr}
+use Rattle.std.specs.Prelude.{replicate}
+use Rattle.std.specs.Option.{option_map, option_and_then}
+use Rattle.std.proofs.lemmas.Bool.{cases_Bool}
+use Rattle.task_sheet.specs.declared.tasks.Job.{Job}
+use Rattle.run_model.specs.declared.run.Tick.{Tick}
+use Rattle.run_model.specs.declared.run.Tick.TheVariants.{Off, Idle, Runs}
+use Rattle.run_text.specs.declared.stage.Stage.{Stage}
+use Rattle.run_text.specs.declared.stage.Stage.TheVariants.{Head, Counts, Jobs, Ticks, Over}
+use Rattle.run_text.specs.Text.{Stretch, stretch, limit, IsSegment, IsJob, IsTickOf}
+use Rattle.run_text.specs.Words.{is_text, words_of}
+use Rattle.run_text.specs.Lines.{make_job, counts_of, job_of, stretch_of}
+use Rattle.run_text.specs.Parts.{Part, part, before_jobs, is_repeated, with_stretch, after_at, after_line, IsSmall}
+use Rattle.run_text.proofs.WordFacts.{text_is, is_text-self, words_of-same}
+use Rattle.run_text.proofs.LineFacts.{all_by_recursion, all_again, counts_front, counts_front-words, counts_of-front, counts_back, stretch_front, stretch_front-words, stretch_of-front, stretch_back, job_front, job_front-words, job_of-front, job_back}
+use Rattle.run_text.proofs.SearchFacts.{some_below, IsSmallList, some_list, begins_or_not}
+
+-- some line that may come begins so
+pub record NextLine (p : Part) (w : List ℕ) : Type 0 where
+  pub more : List ℕ
+  pub next : Part
+  pub goes : after_line p (w ++ more) ≡ Some next
+
+abbrev pub HasFront : List ℕ → List ℕ → Type 0
+HasFront line w = (u : List ℕ) × (line ≡ w ++ u)
+
+has_front_or_not : (line w : List ℕ) → HasFront line w ⊎ (HasFront line w → ⊥)
+has_front_or_not line w = elim (begins_or_not w line) [
+  | inl b ↦ inl b
+  | inr out ↦ inr (λ b. out b.0 b.1)
+]
+
+-- the next line is this one
+next_text : (p q : Part) (text w : List ℕ) → ((line : List ℕ) → after_line p line ≡ cond (is_text line text) (Some q) None) → NextLine p w ⊎ (NextLine p w → ⊥)
+next_text p q text w after = elim (has_front_or_not text w) [
+  | inl b ↦ inl (record { more = b.0; next = q; goes = after (w ++ b.0) ∙ ap (λ (l : List ℕ). cond (is_text l text) (Some q) None) (sym b.1) ∙ rw (is_text-self text) refl })
+  | inr out ↦ inr (λ n. elim (cases_Bool (is_text (w ++ n.more) text)) [
+    | inl h ↦ out (n.more, sym (text_is (w ++ n.more) text h))
+    | inr h ↦ absurd (let none : after_line p (w ++ n.more) ≡ None = after (w ++ n.more) ∙ rw h refl in let some = n.goes in cc)
+  ])
+]
+
+-- numbers of jobs and ticks whose line begins so
+record SomeCounts (w : List ℕ) : Type 0 where
+  jobs : ℕ
+  ticks : ℕ
+  few_jobs : jobs ≤ 20000
+  few_ticks : ticks ≤ 100000
+  front : HasFront (counts_front jobs ticks) w
+
+some_counts : (w : List ℕ) → SomeCounts w ⊎ (SomeCounts w → ⊥)
+some_counts w =
+    let P : ℕ → Type 0 = λ j. (t : ℕ) × (t < 100001) × HasFront (counts_front j t) w in
+    elim (some_below P (λ j. elim (some_below (λ t. HasFront (counts_front j t) w) (λ t. has_front_or_not (counts_front j t) w) 100001) [
+      | inl s ↦ inl s
+      | inr none ↦ inr (λ s. none s.0 s.1 s.2)
+    ]) 20001) [
+      | inl s ↦ inl (record { jobs = s.0; ticks = s.2.0; few_jobs = omega (arith, s.1); few_ticks = omega (arith, s.2.1); front = s.2.2 })
+      | inr none ↦ inr (λ s. none s.jobs (omega (arith, s.few_jobs)) (s.ticks, omega (arith, s.few_ticks), s.front))
+    ]
+
+counts_line_from : (js : List Job) (xs : List Tick) (w : List ℕ) (more : List ℕ) (q : Part) (o : Option (ℕ × ℕ)) → counts_of (w ++ more) ≡ o → option_map (λ n. part (before_jobs n.0 1000000 n.1) js xs) o ≡ Some q → SomeCounts w
+counts_line_from js xs w more q None is e = absurd (cc)
+counts_line_from js xs w more q (Some (j, t)) is e =
+    let read = counts_back (words_of (w ++ more)) j t is in
+    let front : w ++ more ≡ counts_front j t = words_of-same (w ++ more) (counts_front j t) (read.0 ∙ sym (counts_front-words j t (omega (arith, read.1)) (omega (arith, read.2)))) in
+    record { jobs = j; ticks = t; few_jobs = read.1; few_ticks = read.2; front = (more, sym front) }
+
+next_counts : (js : List Job) (xs : List Tick) (w : List ℕ) → NextLine (part Counts js xs) w ⊎ (NextLine (part Counts js xs) w → ⊥)
+next_counts js xs w = elim (some_counts w) [
+  | inl s ↦ inl (record {
+    more = s.front.0;
+    next = part (before_jobs s.jobs 1000000 s.ticks) js xs;
+    goes = ap (λ (l : List ℕ). after_at Counts js xs l) (sym s.front.1) ∙ ap (option_map (λ (n : ℕ × ℕ). part (before_jobs n.0 1000000 n.1) js xs)) (counts_of-front s.jobs s.ticks s.few_jobs s.few_ticks);
+  })
+  | inr none ↦ inr (λ n. none (counts_line_from js xs w n.more n.next (counts_of (w ++ n.more)) refl n.goes))
+]
+
+-- a job whose line begins so
+record SomeJob (room : ℕ) (w : List ℕ) : Type 0 where
+  job : Job
+  is : IsJob job
+  few : length job.segs ≤ room
+  front : HasFront (job_front job) w
+
+abbrev WithSegments : ℕ → List ℕ → ℕ → ℕ → ℕ → Type 0
+WithSegments room w task arrival cost = (segs : List ℕ) × IsSmallList limit room segs × HasFront (job_front (make_job task arrival cost segs)) w
+
+abbrev WithCost : ℕ → List ℕ → ℕ → ℕ → Type 0
+WithCost room w task arrival = (cost : ℕ) × (cost < 1000000001) × WithSegments room w task arrival cost
+
+abbrev WithArrival : ℕ → List ℕ → ℕ → Type 0
+WithArrival room w task = (arrival : ℕ) × (arrival < 1000000001) × WithCost room w task arrival
+
+some_segments : (room : ℕ) (w : List ℕ) (task arrival cost : ℕ) → WithSegments room w task arrival cost ⊎ (WithSegments room w task arrival cost → ⊥)
+some_segments room w task arrival cost = elim (some_list limit room (λ segs. HasFront (job_front (make_job task arrival cost segs)) w) (λ segs. has_front_or_not (job_front (make_job task arrival cost segs)) w)) [
+  | inl s ↦ inl s
+  | inr none ↦ inr (λ s. none s.0 s.1 s.2)
+]
+
+some_cost : (room : ℕ) (w : List ℕ) (task arrival : ℕ) → WithCost room w task arrival ⊎ (WithCost room w task arrival → ⊥)
+some_cost room w task arrival = elim (some_below (WithSegments room w task arrival) (some_segments room w task arrival) 1000000001) [
+  | inl s ↦ inl s
+  | inr none ↦ inr (λ s. none s.0 s.1 s.2)
+]
+
+some_arrival : (room : ℕ) (w : List ℕ) (task : ℕ) → WithArrival room w task ⊎ (WithArrival room w task → ⊥)
+some_arrival room w task = elim (some_below (WithCost room w task) (some_cost room w task) 1000000001) [
+  | inl s ↦ inl s
+  | inr none ↦ inr (λ s. none s.0 s.1 s.2)
+]
+
+some_job : (room : ℕ) (w : List ℕ) → SomeJob room w ⊎ (SomeJob room w → ⊥)
+some_job room w = elim (some_below (WithArrival room w) (some_arrival room w) 1000000001) [
+  | inl t ↦
+      (let a = t.2 in
+      let c = a.2 in
+      let s = c.2 in
+      inl (record {
+        job = make_job t.0 a.0 c.0 s.0;
+        is = record { task = omega (arith, t.1); arrival = omega (arith, a.1); cost = omega (arith, c.1); segs = all_again IsSegment s.0 s.1.all };
+        few = s.1.few;
+        front = s.2;
+      }))
+  | inr none ↦ inr (λ s. none s.job.task (omega (arith, s.is.task)) (
+    s.job.arrival,
+    omega (arith, s.is.arrival),
+    (
+      s.job.cost,
+      omega (arith, s.is.cost),
+      (s.job.segs, record { few = s.few; all = all_by_recursion IsSegment s.job.segs s.is.segs }, s.front),
+    ),
+  ))
+]
+
+job_line_from : (js : List Job) (xs : List Tick) (after room t : ℕ) (w more : List ℕ) (q : Part) (o : Option Job) → job_of room (w ++ more) ≡ o
+    → option_map (λ j. part (before_jobs after (room - length j.segs) t) (js ++ j ∷ []) xs) o ≡ Some q → SomeJob room w
+job_line_from js xs after room t w more q None is e = absurd (cc)
+job_line_from js xs after room t w more q (Some j) is e =
+    let read = job_back room (words_of (w ++ more)) j is in
+    let front : w ++ more ≡ job_front j = words_of-same (w ++ more) (job_front j) (read.words ∙ sym (job_front-words j read.job)) in
+    record { job = j; is = read.job; few = read.few; front = (more, sym front) }
+
+next_job : (js : List Job) (xs : List Tick) (after room t : ℕ) (w : List ℕ) → NextLine (part (Jobs after room t) js xs) w ⊎ (NextLine (part (Jobs after room t) js xs) w → ⊥)
+next_job js xs after room t w = elim (some_job room w) [
+  | inl s ↦ inl (record {
+    more = s.front.0;
+    next = part (before_jobs after (room - length s.job.segs) t) (js ++ s.job ∷ []) xs;
+    goes = ap (λ (l : List ℕ). after_at (Jobs after room t) js xs l) (sym s.front.1) ∙ ap (option_map (λ (j : Job). part (before_jobs after (room - length j.segs) t) (js ++ j ∷ []) xs)) (job_of-front room s.job s.is s.few);
+  })
+  | inr none ↦ inr (λ n. none (job_line_from js xs after room t w n.more n.next (job_of room (w ++ n.more)) refl n.goes))
+]
+
+-- how often a tick may come, so that its line begins so
+record SomeCount (before : Option Tick) (left : ℕ) (w : List ℕ) (x : Tick) : Type 0 where
+  count : ℕ
+  some : 1 ≤ count
+  few : count ≤ left
+  apart : is_repeated before x ≡ false
+  front : HasFront (stretch_front x count) w
+
+some_count : (before : Option Tick) (left : ℕ) (w : List ℕ) (x : Tick) → SomeCount before left w x ⊎ (SomeCount before left w x → ⊥)
+some_count before left w x = elim (cases_Bool (is_repeated before x)) [
+  | inl h ↦ inr (λ s. absurd (let apart = s.apart in cc))
+  | inr h ↦ elim (some_below (λ n. HasFront (stretch_front x (suc n)) w) (λ n. has_front_or_not (stretch_front x (suc n)) w) left) [
+    | inl s ↦ inl (record { count = suc s.0; some = omega arith; few = omega (arith, s.1); apart = h; front = s.2 })
+    | inr none ↦ inr (λ s.
+        let less : s.count ≡ suc (s.count - 1) = omega (arith, s.some) in
+        none (s.count - 1) (omega (arith, s.some, s.few)) (subst (λ (n : ℕ). HasFront (stretch_front x n) w) less s.front))
+  ]
+]
+
+-- a stretch whose line begins so
+record SomeStretch (m : ℕ) (before : Option Tick) (left : ℕ) (w : List ℕ) : Type 0 where
+  tick : Tick
+  of : IsTickOf m tick
+  counted : SomeCount before left w tick
+
+-- none of these stretches
+no_stretch : (m : ℕ) (before : Option Tick) (left : ℕ) (w : List ℕ) → (SomeCount before left w Off → ⊥) → (SomeCount before left w Idle → ⊥) → ((k : ℕ) → k < m → SomeCount before left w (Runs k) → ⊥)
+    → (x : Tick) → IsTickOf m x → SomeCount before left w x → ⊥
+no_stretch m before left w off idle runs Off of s = off s
+no_stretch m before left w off idle runs Idle of s = idle s
+no_stretch m before left w off idle runs (Runs k) of s = runs k of s
+
+some_stretch : (m : ℕ) (before : Option Tick) (left : ℕ) (w : List ℕ) → SomeStretch m before left w ⊎ (SomeStretch m before left w → ⊥)
+some_stretch m before left w = elim (some_count before left w Off) [
+  | inl s ↦ inl (record { tick = Off; of = tt; counted = s })
+  | inr off ↦ elim (some_count before left w Idle) [
+    | inl s ↦ inl (record { tick = Idle; of = tt; counted = s })
+    | inr idle ↦ elim (some_below (λ k. SomeCount before left w (Runs k)) (λ k. some_count before left w (Runs k)) m) [
+      | inl s ↦ inl (record { tick = Runs s.0; of = s.1; counted = s.2 })
+      | inr runs ↦ inr (λ s. no_stretch m before left w off idle runs s.tick s.of s.counted)
+    ]
+  ]
+]
+
+stretch_line_from : (js : List Job) (xs : List Tick) (before : Option Tick) (left : ℕ) (w more : List ℕ) (q : Part) (o : Option Stretch) → length js ≤ 20000 → left ≤ 100000 → stretch_of (length js) left (w ++ more) ≡ o
+    → option_and_then (with_stretch before left js xs) o ≡ Some q → SomeStretch (length js) before left w
+stretch_line_from js xs before left w more q None small few is = λ e. absurd (cc)
+stretch_line_from js xs before left w more q (Some s) small few is = elim (cases_Bool (is_repeated before s.tick)) [
+  | inl h ↦ rw h (λ e. absurd (cc))
+  | inr h ↦ λ e.
+      let read = stretch_back (length js) left (words_of (w ++ more)) s is in
+      let words = stretch_front-words (length js) s.tick s.count (omega arith) read.of (omega (arith, read.few)) in
+      let front : w ++ more ≡ stretch_front s.tick s.count = words_of-same (w ++ more) (stretch_front s.tick s.count) (read.words ∙ sym words) in
+      record { tick = s.tick; of = read.of; counted = record { count = s.count; some = read.some; few = read.few; apart = h; front = (more, sym front) } }
+]
+
+next_stretch : (js : List Job) (xs : List Tick) (before : Option Tick) (left : ℕ) (w : List ℕ) → length js ≤ 20000 → left ≤ 100000 → (left == 0) ≡ false → NextLine (part (Ticks before left) js xs) w ⊎ (NextLine (part (Ticks before left) js xs) w → ⊥)
+next_stretch js xs before left w small few some =
+    let after : (line : List ℕ) → after_at (Ticks before left) js xs line ≡ option_and_then (with_stretch before left js xs) (stretch_of (length js) left line) = λ line. rw some refl in
+    elim (some_stretch (length js) before left w) [
+      | inl s ↦
+          (let c = s.counted in
+          let apart : is_repeated before s.tick ≡ false = c.apart in
+          let read : stretch_of (length js) left (stretch_front s.tick c.count) ≡ Some (stretch s.tick c.count) = stretch_of-front (length js) left s.tick c.count small few s.of c.some c.few in
+          inl (record {
+            more = c.front.0;
+            next = part (Ticks (Some s.tick) (left - c.count)) js (xs ++ replicate c.count s.tick);
+            goes = ap (λ (l : List ℕ). after_at (Ticks before left) js xs l) (sym c.front.1) ∙ after (stretch_front s.tick c.count) ∙ ap (option_and_then (with_stretch before left js xs)) read ∙ rw apart refl;
+          }))
+      | inr none ↦ inr (λ n. none (stretch_line_from js xs before left w n.more n.next (stretch_of (length js) left (w ++ n.more)) small few refl (sym (after (w ++ n.more)) ∙ n.goes)))
+    ]
+
+next_ticks : (js : List Job) (xs : List Tick) (before : Option Tick) (left : ℕ) (w : List ℕ) → length js ≤ 20000 → left ≤ 100000 → NextLine (part (Ticks before left) js xs) w ⊎ (NextLine (part (Ticks before left) js xs) w → ⊥)
+next_ticks js xs before left w small few = elim (cases_Bool (left == 0)) [
+  | inl none ↦ next_text (part (Ticks before left) js xs) (part Over js xs) (codes "end") w (λ line. rw none refl)
+  | inr some ↦ next_stretch js xs before left w small few some
+]
+
+-- whether a line that may come begins so
+pub next_line_or_not : (stage : Stage) (js : List Job) (xs : List Tick) (w : List ℕ) → IsSmall (part stage js xs) → NextLine (part stage js xs) w ⊎ (NextLine (part stage js xs) w → ⊥)
+next_line_or_not Head js xs w small = next_text (part Head js xs) (part Counts js xs) (codes "poet-run 1") w (λ line. refl)
+next_line_or_not Counts js xs w small = next_counts js xs w
+next_line_or_not (Jobs after room t) js xs w small = next_job js xs after room t w
+next_line_or_not (Ticks before left) js xs w small = next_ticks js xs before left w (omega (arith, small.jobs)) small.ticks
+next_line_or_not Over js xs w small = inr (λ n. absurd (let some = n.goes in cc))

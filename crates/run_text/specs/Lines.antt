@@ -1,0 +1,71 @@
+-- What a line of a run's text says, read by itself.
+use Rattle.std.specs.Prelude.{ℕ, ◌+◌, ◌==◌, ◌&&◌, if◌then◌else◌, List, [], ◌∷◌, ◌++◌, length, codes, Option, Some, None}
+use Rattle.std.specs.Option.{option_map, option_and_then}
+use Rattle.task_sheet.specs.declared.tasks.Job.{Job}
+use Rattle.run_model.specs.declared.run.Tick.{Tick}
+use Rattle.run_model.specs.declared.run.Tick.TheVariants.{Off, Idle, Runs}
+use Rattle.run_text.specs.Text.{Stretch, stretch, limit}
+use Rattle.run_text.specs.Words.{words_of, is_text, number_in}
+
+-- the pair, if both are there
+abbrev pub both : {A B : Type 0} → Option A → Option B → Option (A × B)
+both (Some a) (Some b) = Some (a, b)
+both _ _ = None
+
+-- the numbers of jobs and ticks of the words jobs J ticks T
+abbrev pub counts_from : List (List ℕ) → Option (ℕ × ℕ)
+counts_from (a ∷ (j ∷ (b ∷ (t ∷ [])))) = if is_text a (codes "jobs") && is_text b (codes "ticks") then both (number_in 0 (20000 + 1) j) (number_in 0 (100000 + 1) t) else None
+counts_from _ = None
+
+-- the line of the counts
+abbrev pub counts_of : List ℕ → Option (ℕ × ℕ)
+counts_of line = counts_from (words_of line)
+
+-- a number of a job
+abbrev pub job_number : List ℕ → Option ℕ
+job_number word = number_in 0 (limit + 1) word
+
+-- the segments behind these, one a word, of which there are at most so many
+abbrev pub segments_from : ℕ → List ℕ → List (List ℕ) → Option (List ℕ)
+segments_from room segs [] = Some segs
+segments_from room segs (w ∷ ws) = if length segs == room then None else option_and_then (λ n. segments_from room (segs ++ n ∷ []) ws) (job_number w)
+
+-- the job with these numbers
+abbrev pub make_job : ℕ → ℕ → ℕ → List ℕ → Job
+make_job task arrival cost segs = record { task = task; arrival = arrival; cost = cost; segs = segs }
+
+-- the job with these numbers and segments, if they are all there
+abbrev pub job_with : Option ℕ → Option ℕ → Option ℕ → Option (List ℕ) → Option Job
+job_with (Some task) (Some arrival) (Some cost) (Some segs) = Some (make_job task arrival cost segs)
+job_with _ _ _ _ = None
+
+-- the job of the words j TASK ARRIVAL COST S1 S2 ..
+abbrev pub job_from : ℕ → List (List ℕ) → Option Job
+job_from room (a ∷ (t ∷ (r ∷ (c ∷ ws)))) = if is_text a (codes "j") then job_with (job_number t) (job_number r) (job_number c) (segments_from room [] ws) else None
+job_from _ _ = None
+
+-- the line of a job with at most so many segments
+abbrev pub job_of : ℕ → List ℕ → Option Job
+job_of room line = job_from room (words_of line)
+
+-- so many equal ticks, where so many are left
+abbrev pub counted : ℕ → Tick → List ℕ → Option Stretch
+counted left x n = option_map (λ count. stretch x count) (number_in 1 (left + 1) n)
+
+-- the stretch of the words off N, or idle N
+abbrev pub plain_stretch : ℕ → List ℕ → List ℕ → Option Stretch
+plain_stretch left a n = if is_text a (codes "off") then counted left Off n else (if is_text a (codes "idle") then counted left Idle n else None)
+
+-- the stretch of the words run K N
+abbrev pub job_stretch : ℕ → ℕ → List ℕ → List ℕ → List ℕ → Option Stretch
+job_stretch jobs left a k n = if is_text a (codes "run") then option_and_then (λ job. counted left (Runs job) n) (number_in 0 jobs k) else None
+
+-- the stretch of these words
+abbrev pub stretch_from : ℕ → ℕ → List (List ℕ) → Option Stretch
+stretch_from jobs left (a ∷ (n ∷ [])) = plain_stretch left a n
+stretch_from jobs left (a ∷ (k ∷ (n ∷ []))) = job_stretch jobs left a k n
+stretch_from _ _ _ = None
+
+-- the line of a stretch, where there are so many jobs and so many ticks left
+abbrev pub stretch_of : ℕ → ℕ → List ℕ → Option Stretch
+stretch_of jobs left line = stretch_from jobs left (words_of line)

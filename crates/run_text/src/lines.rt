@@ -1,0 +1,213 @@
+//! What a line of a run's text says, read by itself.
+
+ghost use Rattle.std.specs.Prelude.{◌≡◌, ◌+◌, ◌≤◌, [], length, IfOk, IfSome};
+ghost use Rattle.std.specs.Option.{option_map};
+ghost use Rattle.run_text.specs.Text.{stretch};
+ghost use Rattle.run_text.specs.Words.{number_in};
+ghost use Rattle.run_text.specs.Unread.{unread};
+ghost use Rattle.run_text.specs.Lines.{counts_of, job_number, segments_from, make_job, job_with, job_of, plain_stretch, job_stretch, stretch_of};
+
+use crate::words::{Words, read_number_in};
+use lists::Items;
+use run_model::Tick;
+use std::alloc::{AllocError, Global};
+use task_sheet::Job;
+
+/// The most jobs of a run.
+const MOST_JOBS: u64 = 20_000;
+
+/// The most ticks of a run.
+const MOST_TICKS: u64 = 100_000;
+
+/// The greatest number in the line of a job.
+const LIMIT: u64 = 1_000_000_000;
+
+/// The numbers of jobs and ticks.
+pub(crate) fn read_counts(line: &[u8]) -> Option<(u64, u64)>
+    ensures counts { result ≡ counts_of line.now }
+    ensures few_jobs { IfSome result (λ n. n.0 ≤ 20000) }
+    ensures few_ticks { IfSome result (λ n. n.1 ≤ 100000) }
+{
+    let mut words = Words::new(line);
+    let Some(first) = words.next() else {
+        return None;
+    };
+    let Some(jobs) = words.next() else {
+        return None;
+    };
+    let Some(second) = words.next() else {
+        return None;
+    };
+    let Some(ticks) = words.next() else {
+        return None;
+    };
+    if words.next().is_some() || first != b"jobs".as_slice() || second != b"ticks".as_slice() {
+        return None;
+    }
+    let Some(jobs) = read_number_in(jobs, 0, MOST_JOBS + 1) else {
+        return None;
+    };
+    let Some(ticks) = read_number_in(ticks, 0, MOST_TICKS + 1) else {
+        return None;
+    };
+    Some((jobs, ticks))
+}
+
+/// How often a tick comes, where `left` ticks are left.
+fn read_count(word: &[u8], left: u64) -> Option<u64>
+    requires { left ≤ 100000 }
+    ensures count { result ≡ number_in 1 (left + 1) word.now }
+    ensures few { IfSome result (λ n. n ≤ left) }
+{
+    read_number_in(word, 1, left + 1)
+}
+
+/// The tick of the words `off N` or `idle N`, and how often it comes.
+fn read_plain_stretch(first: &[u8], count: &[u8], left: u64) -> Option<(Tick, u64)>
+    requires { left ≤ 100000 }
+    ensures few { IfSome result (λ s. s.1 ≤ left) }
+    ensures stretch { option_map (λ s. stretch s.0 s.1) result ≡
+        plain_stretch left first.now count.now }
+{
+    let tick = if first == b"off".as_slice() {
+        Tick::Off
+    } else if first == b"idle".as_slice() {
+        Tick::Idle
+    } else {
+        return None;
+    };
+    let Some(count) = read_count(count, left) else {
+        return None;
+    };
+    Some((tick, count))
+}
+
+/// The tick of the words `run K N`, and how often it comes.
+fn read_job_stretch(
+    first: &[u8],
+    job: &[u8],
+    count: &[u8],
+    jobs: u64,
+    left: u64,
+) -> Option<(Tick, u64)>
+    requires jobs { jobs ≤ 20000 }
+    requires left { left ≤ 100000 }
+    ensures few { IfSome result (λ s. s.1 ≤ left) }
+    ensures stretch { option_map (λ s. stretch s.0 s.1) result ≡
+        job_stretch jobs left first.now job.now count.now }
+{
+    if first != b"run".as_slice() {
+        return None;
+    }
+    let Some(job) = read_number_in(job, 0, jobs) else {
+        return None;
+    };
+    let Some(count) = read_count(count, left) else {
+        return None;
+    };
+    Some((Tick::Runs(job as u32), count))
+}
+
+/// The tick of a line, and how often it comes.
+///
+/// There are so many jobs, and `left` ticks are left.
+pub(crate) fn read_stretch(line: &[u8], jobs: u64, left: u64) -> Option<(Tick, u64)>
+    requires jobs { jobs ≤ 20000 }
+    requires left { left ≤ 100000 }
+    ensures few { IfSome result (λ s. s.1 ≤ left) }
+    ensures stretch { option_map (λ s. stretch s.0 s.1) result ≡ stretch_of jobs left line.now }
+{
+    let mut words = Words::new(line);
+    let Some(first) = words.next() else {
+        return None;
+    };
+    let Some(second) = words.next() else {
+        return None;
+    };
+    let Some(third) = words.next() else {
+        return read_plain_stretch(first, second, left);
+    };
+    if words.next().is_some() {
+        return None;
+    }
+    read_job_stretch(first, second, third, jobs, left)
+}
+
+/// A number in the line of a job.
+fn read_job_number(word: &[u8]) -> Option<u64>
+    ensures number { result ≡ job_number word.now }
+    ensures small { IfSome result (λ n. n ≤ 1000000000) }
+{
+    read_number_in(word, 0, LIMIT + 1)
+}
+
+/// The segments that the words are, of which there are at most `room`.
+fn read_segments(alloc: Global, words: Words<'_>, room: u64) -> Result<Option<Vec<u64>>, AllocError>
+    ensures few { IfOk result (λ segments. IfSome segments (λ v. length v.items ≤ room)) }
+    ensures segments { IfOk result (λ segments. option_map (λ v. v.items) segments ≡
+        segments_from room [] (unread words.entry)) }
+{
+    let mut segments = Vec::new(alloc);
+    for word in words {
+        if segments.len() as u64 == room {
+            return Ok(None);
+        }
+        let Some(segment) = read_job_number(word) else {
+            return Ok(None);
+        };
+        segments.push(segment)?;
+    }
+    Ok(Some(segments))
+}
+
+/// The numbers of a job: its task, its arrival and its cost.
+fn read_job_numbers(task: &[u8], arrival: &[u8], cost: &[u8]) -> Option<(u32, u64, u64)>
+    ensures { option_map (λ n. make_job n.0 n.1 n.2 []) result ≡
+        job_with (job_number task.now) (job_number arrival.now) (job_number cost.now) (Some []) }
+{
+    let Some(task) = read_job_number(task) else {
+        return None;
+    };
+    let Some(arrival) = read_job_number(arrival) else {
+        return None;
+    };
+    let Some(cost) = read_job_number(cost) else {
+        return None;
+    };
+    Some((task as u32, arrival, cost))
+}
+
+/// The job of a line, with at most `room` segments.
+pub(crate) fn read_job(alloc: Global, line: &[u8], room: u64) -> Result<Option<Job>, AllocError>
+    ensures job { IfOk result (λ job. job ≡ job_of room line.now) }
+    ensures few { IfOk result (λ job. IfSome job (λ j. length j.segs ≤ room)) }
+{
+    let mut words = Words::new(line);
+    let Some(first) = words.next() else {
+        return Ok(None);
+    };
+    let Some(task) = words.next() else {
+        return Ok(None);
+    };
+    let Some(arrival) = words.next() else {
+        return Ok(None);
+    };
+    let Some(cost) = words.next() else {
+        return Ok(None);
+    };
+    if first != b"j".as_slice() {
+        return Ok(None);
+    }
+    let Some((task, arrival, cost)) = read_job_numbers(task, arrival, cost) else {
+        return Ok(None);
+    };
+    let Some(segs) = read_segments(alloc, words, room)? else {
+        return Ok(None);
+    };
+    Ok(Some(Job {
+        task,
+        arrival,
+        cost,
+        segs: Items::new(segs),
+    }))
+}

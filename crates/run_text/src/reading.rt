@@ -1,0 +1,37 @@
+//! Reading a run.
+
+ghost use Rattle.std.specs.Prelude.{◌≡◌, ◌≢◌, IfOk, IfErr};
+ghost use Rattle.run_text.specs.Reading.{Parses, IsReading, Gives};
+ghost use Rattle.run_text.specs.Parsing.{run_of_text};
+
+use crate::draft::Draft;
+use crate::refusal::RunRefusal;
+use run_model::Run;
+use std::alloc::Global;
+
+/// The run whose text the bytes are.
+///
+/// Where they are no run's text, the refusal names the line of the first byte that is wrong or
+/// missing. No byte is kept: a line is read where it stands.
+pub fn read_run(alloc: Global, bytes: &[u8]) -> Result<Run, RunRefusal>
+    ensures found { IfOk result (λ run. Parses bytes.now run) }
+    ensures refused { IfErr result (λ e. e ≢ RunRefusal.Memory → IsReading bytes.now (Err e)) }
+    ensures gives { Gives result (run_of_text bytes.now) }
+{
+    let mut draft = Draft::new(alloc);
+    let mut start = 0usize;
+    let mut line = 1u64;
+    for (at, byte) in bytes.iter().enumerate() {
+        if *byte == b'\n' {
+            if !draft.take(alloc, &bytes[start..at])? {
+                return Err(RunRefusal::Text { line });
+            }
+            start = at + 1;
+            line += 1;
+        }
+    }
+    if draft.is_over() && start == bytes.len() {
+        return Ok(draft.into_run());
+    }
+    Err(RunRefusal::Text { line })
+}

@@ -1,0 +1,14 @@
+pub mod SearchFacts
+pub mod GrowthFacts
+pub mod RunFacts
+pub mod JobFacts
+pub mod OrderFacts
+pub mod AllowanceFacts
+pub mod Soundness
+pub mod AddedJobs
+pub mod AddedTicks
+pub mod ChoiceFacts
+pub mod Stages
+pub mod StageFacts
+pub mod Fullness
+pub mod Worked

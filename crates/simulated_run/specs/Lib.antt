@@ -1,0 +1,5 @@
+pub mod Searches
+pub mod Words
+pub mod Jobs
+pub mod SimulatedRun
+pub mod Laws

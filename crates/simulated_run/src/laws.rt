@@ -1,0 +1,30 @@
+//! A simulated run complies, and a dense one is full.
+ghost use Rattle.simulated_run.specs.Laws.{SimulationComplies, DenseIsFull};
+
+use policy::Policy;
+use preemption::Preemption;
+use supply::Supply;
+
+/// A simulated run of any length, in any mode, complies with its sheet.
+pub fn simulation_complies<P: Policy, M: Preemption, S: Supply>()
+    ensures { (supply : S) → S.is_supply supply → SimulationComplies P.meaning M.cuts (S.sbf supply) }
+{}
+
+/// In mode dense as many jobs arrive at each tick as the curves still admit.
+pub fn dense_is_full<P: Policy, M: Preemption, S: Supply>()
+    ensures { (supply : S) → S.is_supply supply → DenseIsFull P.meaning M.cuts (S.sbf supply) }
+{}
+
+#[cfg(test)]
+mod tests {
+    use super::{dense_is_full, simulation_complies};
+    use policy::Fp;
+    use preemption::PerTask;
+    use supply::Unit;
+
+    #[test]
+    fn laws_at_concrete_kinds() {
+        simulation_complies::<Fp, PerTask, Unit>();
+        dense_is_full::<Fp, PerTask, Unit>();
+    }
+}

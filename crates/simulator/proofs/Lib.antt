@@ -1,0 +1,10 @@
+pub mod LoadFacts
+pub mod LimitFacts
+pub mod WindowFacts
+pub mod QueueFacts
+pub mod CutFacts
+pub mod KeepFacts
+pub mod ArrivalFacts
+pub mod TickFacts
+pub mod SimulationFacts
+pub mod RunLimits

@@ -1,0 +1,152 @@
+//! The jobs that arrive at a tick.
+ghost use Rattle.std.specs.Prelude.{◌≡◌, ◌≤◌, ◌<◌, ◌+◌, length, OnOk, IfErr};
+ghost use Rattle.task_sheet.specs.Sheets.{task_at};
+ghost use Rattle.preemption.specs.CutLaws.{Serves};
+ghost use Rattle.simulated_run.specs.SimulatedRun.{with_job, add_job as add_job_by, add_jobs as add_jobs_by, arrive_of as arrive_of_by, arrive_below, moment_after};
+ghost use Rattle.simulator.specs.Simulations.{IsRefusal};
+ghost use Rattle.simulator.specs.Kept.{IsKept, IsNew, world_by, run_of, moment_of};
+
+use crate::loads::draw_load;
+use crate::machine::{Machine, rank_of};
+use crate::refusal::SimRefusal;
+use crate::words::draw_count;
+use lists::Items;
+use policy::Policy;
+use preemption::Preemption;
+use simulated_run::Mode;
+use std::alloc::{AllocError, Global};
+use task_sheet::{Job, Sheet};
+use windows::allowance;
+
+/// The most jobs of a run.
+const MOST_JOBS: usize = 20_000;
+
+/// The most segments of a run's jobs.
+const MOST_SEGMENTS: usize = 1_000_000;
+
+/// Takes up a job that has just arrived.
+fn keep_job<P: Policy, M: Preemption>(
+    sheet: &Sheet,
+    machine: &mut Machine,
+    job: Job,
+) -> Result<(), AllocError>
+    requires time { job.arrival ≤ 100000 }
+    requires new { IsNew M.cuts sheet.now machine.old.jobs.items job }
+    requires kept { IsKept P.meaning M.cuts sheet.now job.arrival machine.old }
+    ensures run { OnOk result (run_of machine.new ≡ with_job (run_of machine.old) job) }
+    ensures words { machine.new.words ≡ machine.old.words }
+    ensures kept { OnOk result (IsKept P.meaning M.cuts sheet.now job.arrival machine.new) }
+{
+    let number = machine.jobs.len() as u32;
+    let rank = rank_of::<P>(sheet, &job, number);
+    machine.segments += job.segs.len();
+    let list = &mut machine.arrivals[job.task as usize];
+    list.push(job.arrival)?;
+    machine.left.push(job.cost)?;
+    machine.queue.insert(rank, number)?;
+    machine.jobs.push(job)?;
+    Ok(())
+}
+
+/// One more job of task `o` at `t`.
+fn add_job<P: Policy, M: Preemption>(
+    alloc: Global,
+    sheet: &Sheet,
+    mode: Mode,
+    machine: &mut Machine,
+    o: u32,
+    t: u64,
+) -> Result<(), SimRefusal>
+    requires task { o < length sheet.now.tasks }
+    requires time { t ≤ 100000 }
+    requires served { Serves M.cuts sheet.now }
+    requires kept { IsKept P.meaning M.cuts sheet.now t machine.old }
+    ensures moment { OnOk result (moment_of machine.new ≡ add_job_by (world_by P.meaning M.cuts sheet.now mode) o t (moment_of machine.old)) }
+    ensures kept { OnOk result (IsKept P.meaning M.cuts sheet.now t machine.new) }
+    ensures refusal { IfErr result (IsRefusal (add_job_by (world_by P.meaning M.cuts sheet.now mode) o t (moment_of machine.old)).run.jobs) }
+{
+    if machine.jobs.len() >= MOST_JOBS {
+        return Err(SimRefusal::Jobs);
+    }
+    let task = sheet.task(o);
+    let spare = MOST_SEGMENTS - machine.segments;
+    let load = draw_load(alloc, mode, &task.cut, task.cost, spare, &mut machine.words)?;
+    let job = Job {
+        task: o,
+        arrival: t,
+        cost: load.cost,
+        segs: Items::new(load.segs),
+    };
+    keep_job::<P, M>(sheet, machine, job)?;
+    Ok(())
+}
+
+/// So many more jobs of task `o` at `t`.
+fn add_jobs<P: Policy, M: Preemption>(
+    alloc: Global,
+    sheet: &Sheet,
+    mode: Mode,
+    machine: &mut Machine,
+    o: u32,
+    t: u64,
+    n: u64,
+) -> Result<(), SimRefusal>
+    requires task { o < length sheet.now.tasks }
+    requires time { t ≤ 100000 }
+    requires served { Serves M.cuts sheet.now }
+    requires kept { IsKept P.meaning M.cuts sheet.now t machine.old }
+    ensures moment { OnOk result (moment_of machine.new ≡ add_jobs_by (world_by P.meaning M.cuts sheet.now mode) o t n (moment_of machine.old)) }
+    ensures kept { OnOk result (IsKept P.meaning M.cuts sheet.now t machine.new) }
+    ensures refusal { IfErr result (IsRefusal (add_jobs_by (world_by P.meaning M.cuts sheet.now mode) o t n (moment_of machine.old)).run.jobs) }
+{
+    for i in 0..n {
+        add_job::<P, M>(alloc, sheet, mode, machine, o, t)?;
+    }
+    Ok(())
+}
+
+/// The jobs of task `o` that arrive at `t`.
+fn arrive_of<P: Policy, M: Preemption>(
+    alloc: Global,
+    sheet: &Sheet,
+    mode: Mode,
+    machine: &mut Machine,
+    o: u32,
+    t: u64,
+) -> Result<(), SimRefusal>
+    requires task { o < length sheet.now.tasks }
+    requires time { t ≤ 100000 }
+    requires served { Serves M.cuts sheet.now }
+    requires kept { IsKept P.meaning M.cuts sheet.now t machine.old }
+    requires stage { moment_of machine.old ≡ arrive_below (world_by P.meaning M.cuts sheet.now mode) t o (moment_after (world_by P.meaning M.cuts sheet.now mode) t) }
+    ensures moment { OnOk result (moment_of machine.new ≡ arrive_of_by (world_by P.meaning M.cuts sheet.now mode) o t (moment_of machine.old)) }
+    ensures kept { OnOk result (IsKept P.meaning M.cuts sheet.now t machine.new) }
+    ensures refusal { IfErr result (IsRefusal (arrive_of_by (world_by P.meaning M.cuts sheet.now mode) o t (moment_of machine.old)).run.jobs) }
+{
+    let curve = &sheet.task(o).curve;
+    let room = allowance(curve, &machine.arrivals[o as usize], t);
+    let n = draw_count(mode, room, &mut machine.words);
+    add_jobs::<P, M>(alloc, sheet, mode, machine, o, t, n)
+}
+
+/// The jobs of all tasks that arrive at `t`.
+pub fn arrive<P: Policy, M: Preemption>(
+    alloc: Global,
+    sheet: &Sheet,
+    mode: Mode,
+    machine: &mut Machine,
+    t: u64,
+) -> Result<(), SimRefusal>
+    requires time { t ≤ 100000 }
+    requires served { Serves M.cuts sheet.now }
+    requires kept { IsKept P.meaning M.cuts sheet.now t machine.old }
+    requires stage { moment_of machine.old ≡ moment_after (world_by P.meaning M.cuts sheet.now mode) t }
+    ensures moment { OnOk result (moment_of machine.new ≡ arrive_below (world_by P.meaning M.cuts sheet.now mode) t (length sheet.now.tasks) (moment_after (world_by P.meaning M.cuts sheet.now mode) t)) }
+    ensures kept { OnOk result (IsKept P.meaning M.cuts sheet.now t machine.new) }
+    ensures refusal { IfErr result (IsRefusal (arrive_below (world_by P.meaning M.cuts sheet.now mode) t (length sheet.now.tasks) (moment_after (world_by P.meaning M.cuts sheet.now mode) t)).run.jobs) }
+{
+    for o in 0..sheet.len() {
+        arrive_of::<P, M>(alloc, sheet, mode, machine, o, t)?;
+    }
+    Ok(())
+}

@@ -1,0 +1,17 @@
+//! Simulation: the run of a sheet that the seed or the fullest load gives, tick by tick.
+#![tactic(auto)]
+
+mod arrivals;
+mod loads;
+mod machine;
+mod refusal;
+mod running;
+mod ticks;
+mod words;
+
+pub use refusal::SimRefusal;
+pub use running::simulate;
+pub use simulated_run::Mode;
+
+#[cfg(test)]
+mod tests;

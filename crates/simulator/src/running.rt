@@ -1,0 +1,127 @@
+//! The simulated run.
+ghost use Rattle.std.specs.Prelude.{◌≡◌, ◌≤◌, ◌<◌, ℕ, [], suc, length, slice_index_or, IfOk, OnOk, IfErr};
+ghost use Rattle.std.specs.Global.{Vec as GlobalVec};
+ghost use Rattle.task_sheet.specs.Sheets.{IsValidSheet};
+ghost use Rattle.preemption.specs.CutLaws.{Serves};
+ghost use Rattle.supply.specs.Promises.{sbf_of};
+ghost use Rattle.run_text.specs.Text.{IsWithinLimits};
+ghost use Rattle.schedule_laws.specs.Compliance.{IsCompliant};
+ghost use Rattle.simulated_run.specs.SimulatedRun.{World, world_of, seed_of as seed_by, arrive_below, moment_after};
+ghost use Rattle.simulator.specs.Simulations.{IsSimulation, IsRefusal};
+ghost use Rattle.simulator.specs.Kept.{IsKept, world_by, moment_of};
+
+use crate::arrivals::arrive;
+use crate::machine::Machine;
+use crate::refusal::SimRefusal;
+use crate::ticks::add_tick;
+use lists::Items;
+use policy::Policy;
+use preemption::Preemption;
+use rand_core::SeedableRng;
+use rand_xoshiro::SplitMix64;
+use run_model::Run;
+use simulated_run::{Mode, simulation_complies};
+use std::alloc::{AllocError, Global};
+use std::collections::BTreeMap;
+use supply::Supply;
+use task_sheet::Sheet;
+
+fn seed_of(mode: Mode) -> u64
+    ensures { (w : World) → result ≡ seed_by w mode }
+{
+    match mode {
+        Mode::Dense => 0,
+        Mode::Seed(seed) => seed,
+    }
+}
+
+/// No arrivals, for so many tasks.
+fn no_arrivals(alloc: Global, n: u32) -> Result<Vec<Vec<u64>>, AllocError>
+    ensures len { IfOk result (λ lists. length lists.items ≡ n) }
+    ensures none { IfOk result (λ lists. (o : ℕ) (d : GlobalVec ℕ) → o < n → (slice_index_or lists.items o d).items ≡ []) }
+{
+    let mut lists = Vec::new(alloc);
+    for _o in 0..n {
+        lists.push(Vec::new(alloc))?;
+    }
+    Ok(lists)
+}
+
+/// A machine before the first tick.
+fn start<P: Policy, M: Preemption>(
+    alloc: Global,
+    sheet: &Sheet,
+    mode: Mode,
+) -> Result<Machine, AllocError>
+    ensures moment { IfOk result (λ machine. moment_of machine ≡ moment_after (world_by P.meaning M.cuts sheet.now mode) 0) }
+    ensures kept { IfOk result (IsKept P.meaning M.cuts sheet.now 0) }
+    ensures valid { IsValidSheet sheet.now }
+{
+    let arrivals = no_arrivals(alloc, sheet.len())?;
+    let counts = vec![in alloc; 0]?;
+    Ok(Machine {
+        jobs: Vec::new(alloc),
+        ticks: Vec::new(alloc),
+        words: SplitMix64::seed_from_u64(seed_of(mode)),
+        left: Vec::new(alloc),
+        queue: BTreeMap::new(alloc),
+        inside: None,
+        segments: 0,
+        arrivals,
+        counts,
+    })
+}
+
+/// Tick `t`, with the jobs that arrive at it.
+fn run_tick<P: Policy, M: Preemption>(
+    alloc: Global,
+    sheet: &Sheet,
+    mode: Mode,
+    machine: &mut Machine,
+    t: u64,
+) -> Result<(), SimRefusal>
+    requires time { t ≤ 100000 }
+    requires served { Serves M.cuts sheet.now }
+    requires kept { IsKept P.meaning M.cuts sheet.now t machine.old }
+    requires stage { moment_of machine.old ≡ moment_after (world_by P.meaning M.cuts sheet.now mode) t }
+    ensures moment { OnOk result (moment_of machine.new ≡ moment_after (world_by P.meaning M.cuts sheet.now mode) (suc t)) }
+    ensures kept { OnOk result (IsKept P.meaning M.cuts sheet.now (suc t) machine.new) }
+    ensures refusal { IfErr result (IsRefusal (arrive_below (world_by P.meaning M.cuts sheet.now mode) t (length sheet.now.tasks) (moment_after (world_by P.meaning M.cuts sheet.now mode) t)).run.jobs) }
+{
+    arrive::<P, M>(alloc, sheet, mode, machine, t)?;
+    add_tick::<P, M>(sheet, mode, machine, t)?;
+    Ok(())
+}
+
+/// The simulated run of a sheet's first `n` ticks, up to 100,000; `supply` is what the sheet states.
+///
+/// The run complies with the sheet, and can be written. It is refused by `Jobs` where it has more than
+/// 20,000 jobs, and by `Segments` where their segments are more than 1,000,000, as soon as a job
+/// passes a limit; a job that passes both limits passes `Jobs`.
+pub fn simulate<P: Policy, M: Preemption, S: Supply>(
+    alloc: Global,
+    sheet: &Sheet,
+    supply: &S,
+    mode: Mode,
+    n: u64,
+) -> Result<Run, SimRefusal>
+    requires ticks { n ≤ 100000 }
+    requires served { Serves M.cuts sheet.now }
+    requires stated { S.sbf supply.now ≡ sbf_of sheet.now.supply }
+    ensures exact { IsSimulation (world_of P.meaning M.cuts (S.sbf supply.now) sheet.now mode) n result }
+    ensures complies { IfOk result (IsCompliant P.meaning M.cuts (S.sbf supply.now) sheet.now) }
+    ensures within { IfOk result IsWithinLimits }
+{
+    // what the clauses rest on
+    supply.known();
+    simulation_complies::<P, M, S>();
+    let mut machine = start::<P, M>(alloc, sheet, mode)?;
+    for t in 0..n {
+        run_tick::<P, M>(alloc, sheet, mode, &mut machine, t)?;
+    }
+    let Machine { jobs, ticks, .. } = machine;
+    Ok(Run {
+        jobs: Items::new(jobs),
+        ticks: Items::new(ticks),
+    })
+}

@@ -1,0 +1,157 @@
+//! What the processor does at a tick.
+ghost use Rattle.std.specs.Prelude.{◌≡◌, ◌≤◌, ◌<◌, ℕ, true, None, Some, suc, cond, length, OnOk, MatchOption};
+ghost use Rattle.std.specs.BTreeMap.{Updates};
+ghost use Rattle.task_sheet.specs.Sheets.{IsTask};
+ghost use Rattle.preemption.specs.CutLaws.{Serves};
+ghost use Rattle.run_model.specs.declared.run.Tick.TheVariants.{Off, Runs as RunsJob};
+ghost use Rattle.run_model.specs.Runs.{is_on as is_on_by};
+ghost use Rattle.simulated_run.specs.SimulatedRun.{World, choice, with_tick, arrive_below, moment_after, add_tick as add_tick_by};
+ghost use Rattle.simulator.specs.Ranks.{rank_cmp};
+ghost use Rattle.simulator.specs.Kept.{IsKept, IsKeptAt, IsFirstEntry, MayBe, FloatsBy, CanRun, KeepsRest, HasCuts, left_at, world_by, run_of, moment_of};
+
+use crate::machine::{Machine, Rank, rank_of};
+use crate::words::draw_off;
+use policy::Policy;
+use preemption::Preemption;
+use run_model::Tick;
+use simulated_run::Mode;
+use std::alloc::AllocError;
+use std::collections::BTreeMap;
+use task_sheet::{Cut, Job, Sheet, Task};
+use windows::off_allowed;
+
+/// The job of the first entry.
+fn first_entry(queue: &BTreeMap<Rank, u32>) -> Option<u32>
+    ensures { MatchOption result (length queue.now.entries ≡ 0) (IsFirstEntry queue.now) }
+{
+    match queue.first_key_value() {
+        Some((_, k)) => {
+            let number = *k;
+            Some(number)
+        }
+        None => None,
+    }
+}
+
+/// What the processor does where it is supplied.
+fn choose(machine: &Machine) -> Tick
+    ensures { (w : World) (t : ℕ) → IsKept w.policy w.cuts w.sheet t machine.now → result ≡ choice w (run_of machine.now) t }
+{
+    if let Some(k) = machine.inside {
+        return Tick::Runs(k);
+    }
+    match first_entry(&machine.queue) {
+        Some(k) => Tick::Runs(k),
+        None => Tick::Idle,
+    }
+}
+
+/// What the processor does, and nothing where it is off.
+fn pick(machine: &Machine, off: bool) -> Tick
+    ensures tick { (w : World) (t : ℕ) → IsKept w.policy w.cuts w.sheet t machine.now → result ≡ cond off Off (choice w (run_of machine.now) t) }
+    ensures may { (w : World) (t : ℕ) → HasCuts w → IsKept w.policy w.cuts w.sheet t machine.now → MayBe machine.now result }
+{
+    if off { Tick::Off } else { choose(machine) }
+}
+
+/// Takes a job out of the queue, if nothing of it is left.
+fn leave(queue: &mut BTreeMap<Rank, u32>, rank: Rank, rest: u64)
+    ensures done { rest ≡ 0 → Updates rank_cmp queue.old queue.new rank None }
+    ensures stays { 0 < rest → queue.new ≡ queue.old }
+{
+    if rest == 0 {
+        queue.remove(&rank);
+    }
+}
+
+/// Whether a job can be cut once it has had `s` ticks of service.
+///
+/// Segments that float are looked at together: they are cut at the multiples of their bound.
+fn can_cut<M: Preemption>(task: &Task, job: &Job, s: u64) -> bool
+    requires valid { IsTask task.now }
+    requires serves { M.cuts.serves task.now ≡ true }
+    requires floats { FloatsBy task.now.cut job.now }
+    ensures { result ≡ M.cuts.cuttable task.now job.now s }
+{
+    match task.cut {
+        Cut::Floating(bound) => s % bound == 0 || job.cost <= s,
+        _ => M::cuttable(task, job, s),
+    }
+}
+
+/// The job, where it cannot be cut.
+fn segment_of(cut: bool, k: u32) -> Option<u32>
+    ensures { result ≡ cond cut None (Some k) }
+{
+    if cut { None } else { Some(k) }
+}
+
+/// Runs job `k` for a tick.
+fn run_job<P: Policy, M: Preemption>(sheet: &Sheet, machine: &mut Machine, k: u32)
+    requires listed { k < length machine.old.jobs.items }
+    requires waits { 0 < left_at machine.old.left.items k }
+    requires chosen { CanRun machine.old.inside k }
+    requires time { length machine.old.ticks.items ≤ 100000 }
+    requires served { Serves M.cuts sheet.now }
+    requires kept { IsKept P.meaning M.cuts sheet.now (length machine.old.ticks.items) machine.old }
+    ensures rest { KeepsRest machine.old machine.new }
+    ensures kept { IsKeptAt P.meaning M.cuts sheet.now (suc (length machine.old.ticks.items)) (with_tick (run_of machine.old) (RunsJob k)) machine.new.left.items machine.new.queue machine.new.inside }
+{
+    let _count = sheet.len();
+    let rest = machine.left[k as usize] - 1;
+    machine.left[k as usize] = rest;
+    let job = &machine.jobs[k as usize];
+    let rank = rank_of::<P>(sheet, job, k);
+    let cut = can_cut::<M>(sheet.task(job.task), job, job.cost - rest);
+    leave(&mut machine.queue, rank, rest);
+    machine.inside = segment_of(cut, k);
+}
+
+/// What a tick does to its job.
+fn advance<P: Policy, M: Preemption>(sheet: &Sheet, machine: &mut Machine, tick: Tick)
+    requires tick { MayBe machine.old tick }
+    requires time { length machine.old.ticks.items ≤ 100000 }
+    requires served { Serves M.cuts sheet.now }
+    requires kept { IsKept P.meaning M.cuts sheet.now (length machine.old.ticks.items) machine.old }
+    ensures rest { KeepsRest machine.old machine.new }
+    ensures kept { IsKeptAt P.meaning M.cuts sheet.now (suc (length machine.old.ticks.items)) (with_tick (run_of machine.old) tick) machine.new.left.items machine.new.queue machine.new.inside }
+{
+    if let Tick::Runs(k) = tick {
+        run_job::<P, M>(sheet, machine, k);
+    }
+}
+
+/// 1 for a tick that is supplied, else 0.
+fn count_on(tick: Tick) -> u64
+    ensures { result ≡ cond (is_on_by tick) 1 0 }
+{
+    match tick {
+        Tick::Off => 0,
+        Tick::Idle | Tick::Runs(_) => 1,
+    }
+}
+
+/// Tick `t`, once its jobs have arrived.
+pub fn add_tick<P: Policy, M: Preemption>(
+    sheet: &Sheet,
+    mode: Mode,
+    machine: &mut Machine,
+    t: u64,
+) -> Result<(), AllocError>
+    requires time { t ≤ 100000 }
+    requires served { Serves M.cuts sheet.now }
+    requires kept { IsKept P.meaning M.cuts sheet.now t machine.old }
+    requires stage { moment_of machine.old ≡ arrive_below (world_by P.meaning M.cuts sheet.now mode) t (length sheet.now.tasks) (moment_after (world_by P.meaning M.cuts sheet.now mode) t) }
+    ensures moment { OnOk result (moment_of machine.new ≡ add_tick_by (world_by P.meaning M.cuts sheet.now mode) t (moment_of machine.old)) }
+    ensures kept { OnOk result (IsKept P.meaning M.cuts sheet.now (suc t) machine.new) }
+{
+    let _count = sheet.len();
+    let may = off_allowed(sheet, &machine.counts, t);
+    let off = draw_off(mode, may, &mut machine.words);
+    let tick = pick(machine, off);
+    advance::<P, M>(sheet, machine, tick);
+    let count = machine.counts[t as usize] + count_on(tick);
+    machine.counts.push(count)?;
+    machine.ticks.push(tick)?;
+    Ok(())
+}

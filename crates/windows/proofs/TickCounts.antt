@@ -1,0 +1,124 @@
+use Rattle.std.proofs.Common.{◌≡◌, ℕ, zero, suc, ◌+◌, ◌-◌, ◌<◌, ◌≤◌, Bool, true, false, not, cond, List, [], ◌∷◌, ◌++◌, length, get_or, refl, ap, inl, inr, arith, add-zero, add-suc, add-one}
+use Rattle.std.proofs.lemmas.Bool.{cases_lt}
+use Rattle.std.proofs.lemmas.List.{length-append, get_or_append_left, get_or-append_right}
+use Rattle.lists.proofs.SearchFacts.{find_below}
+use Rattle.run_model.specs.declared.run.Run.{Run}
+use Rattle.run_model.specs.declared.run.Tick.{Tick}
+use Rattle.run_model.specs.Runs.{tick_at, is_on, ticks_in}
+use Rattle.run_model.proofs.ServiceFacts.{ticks_in_none, ticks_in_more}
+use Rattle.schedule_laws.specs.Tests.{IsShort}
+use Rattle.windows.specs.Supplied.{AreCounts, ArePromised, MayBeOff}
+
+-- the ticks before s + d, in two parts
+ticks_in_split : (test : Tick → Bool) (run : Run) (s d : ℕ) → s + d ≤ length run.ticks → ticks_in test run 0 (s + d) ≡ ticks_in test run 0 s + ticks_in test run s d
+ticks_in_split test run s zero h = rw add-zero (omega (arith, ticks_in_none test run s))
+ticks_in_split test run s (suc d) h =
+    let e : 0 + (s + d) ≡ s + d = omega arith in
+    rw add-suc (omega (arith, ticks_in_split test run s d (omega arith), ticks_in_more test run 0 (s + d) (omega arith), ticks_in_more test run s d (omega arith), ap (λ (w : ℕ). cond {A = ℕ} (test (tick_at run w)) 1 0) e))
+
+pub counts_start : (run : Run) (counts : List ℕ) → counts ≡ 0 ∷ [] → AreCounts run counts 0
+counts_start run counts e = record {
+  counted = omega (arith, ap length e);
+  each = λ s h. let z : s ≡ 0 = omega arith in omega (arith, ap (λ (l : List ℕ). get_or l 0 0) e, ap (λ (w : ℕ). get_or counts w 0) z, ap (ticks_in is_on run 0) z, ticks_in_none is_on run 0);
+}
+
+pub counts_more : (run : Run) (counts : List ℕ) (t x : ℕ) → AreCounts run counts t → x ≡ ticks_in is_on run 0 (t + 1) → AreCounts run (counts ++ x ∷ []) (t + 1)
+counts_more run counts t x are e = record {
+  counted = omega (arith, are.counted, length-append counts (x ∷ []));
+  each = λ s h. elim (cases_lt s (t + 1)) [
+    | inl l ↦ omega (arith, get_or_append_left counts (x ∷ []) 0 s (omega (arith, are.counted)), are.each s (omega arith))
+    | inr l ↦
+        let last : s ≡ t + 1 = omega arith in
+        let none : t + 1 - (t + 1) ≡ 0 = omega arith in
+        omega (arith, ap (λ (w : ℕ). get_or (counts ++ x ∷ []) w 0) last, get_or-append_right counts (x ∷ []) (t + 1) (t + 1) 0 are.counted (omega arith), ap (λ (w : ℕ). get_or (x ∷ []) w 0) none, ap (ticks_in is_on run 0) last)
+  ];
+}
+
+-- one tick more
+pub supplied_more : (run : Run) (t : ℕ) → t < length run.ticks → ticks_in is_on run 0 (t + 1) ≡ ticks_in is_on run 0 t + cond (is_on (tick_at run t)) 1 0
+supplied_more run t h =
+    let e : 0 + t ≡ t = omega arith in
+    rw add-one (omega (arith, ticks_in_more is_on run 0 t (omega arith), ap (λ (w : ℕ). cond {A = ℕ} (is_on (tick_at run w)) 1 0) e))
+
+module _ (sbf : ℕ → ℕ) (starts : sbf 0 ≡ 0) (grows : (d : ℕ) → (sbf d ≤ sbf (d + 1)) × (sbf (d + 1) ≤ sbf d + 1)) (run : Run) (counts : List ℕ) (t : ℕ) (are : AreCounts run counts t) where
+  -- in a window [s, u) of the ticks so far
+  window_of : (s u : ℕ) → s ≤ u → u ≤ t → t ≤ length run.ticks → get_or counts u 0 ≡ get_or counts s 0 + ticks_in is_on run s (u - s)
+  window_of s u h l m =
+      let e : s + (u - s) ≡ u = omega arith in
+      omega (arith, are.each s (omega arith), are.each u l, ticks_in_split is_on run s (u - s) (omega arith), ap (ticks_in is_on run 0) e)
+
+  kept_by : ((v : ℕ) → v < t → IsShort sbf run (v + 1) → ⊥) → t ≤ length run.ticks → (s u : ℕ) → s ≤ u → u ≤ t → sbf (u - s) + get_or counts s 0 ≤ get_or counts u 0
+  kept_by free m s zero h l =
+      let z : s ≡ 0 = omega arith in
+      let d : 0 - s ≡ 0 = omega arith in
+      omega (arith, ap sbf d, ap (λ (w : ℕ). get_or counts w 0) z)
+  kept_by free m s (suc v) h l = elim (cases_lt (ticks_in is_on run s (suc v - s)) (sbf (suc v - s))) [
+    | inl few ↦ absurd (free v (omega arith) (rw add-one (record { start = s; within = h; few = few })))
+    | inr enough ↦ omega (arith, window_of s (suc v) h l m)
+  ]
+
+  -- where no tick is short so far
+  pub are_promised : ((v : ℕ) → v < t → IsShort sbf run (v + 1) → ⊥) → t ≤ length run.ticks → ArePromised sbf counts t
+  are_promised free m = record { counted = are.counted; kept = kept_by free m }
+
+  -- a window that ends with tick t
+  pub window_now : (s : ℕ) → s ≤ t → t < length run.ticks → get_or counts t 0 + cond (is_on (tick_at run t)) 1 0 ≡ get_or counts s 0 + ticks_in is_on run s (t + 1 - s)
+  window_now s h l =
+      let e : s + (t + 1 - s) ≡ t + 1 = omega arith in
+      omega (arith, are.each s h, are.each t (omega arith), supplied_more run t l, ticks_in_split is_on run s (t + 1 - s) (omega arith), ap (ticks_in is_on run 0) e)
+
+  -- with a supplied tick no window is the first short one
+  pub on_fine : ArePromised sbf counts t → t < length run.ticks → is_on (tick_at run t) ≡ true → IsShort sbf run (t + 1) → ⊥
+  on_fine past l on short = elim (cases_lt t short.start) [
+    | inl c ↦
+        let d : t + 1 - short.start ≡ 0 = omega arith in
+        omega (arith, short.few, ap sbf d)
+    | inr c ↦
+        let d : t + 1 - short.start ≡ t - short.start + 1 = omega arith in
+        omega (arith, short.few, window_now short.start c l, ap (λ (b : Bool). cond {A = ℕ} b 1 0) on, past.kept short.start t c (omega arith), (grows (t - short.start)).1, ap sbf d)
+  ]
+
+  pub off_fine : MayBeOff sbf counts t → t < length run.ticks → is_on (tick_at run t) ≡ false → IsShort sbf run (t + 1) → ⊥
+  off_fine may l off short = elim (cases_lt t short.start) [
+    | inl c ↦
+        let d : t + 1 - short.start ≡ 0 = omega arith in
+        omega (arith, short.few, ap sbf d)
+    | inr c ↦ omega (arith, short.few, window_now short.start c l, ap (λ (b : Bool). cond {A = ℕ} b 1 0) off, may short.start c)
+  ]
+
+  pub off_short : (MayBeOff sbf counts t → ⊥) → t < length run.ticks → is_on (tick_at run t) ≡ false → IsShort sbf run (t + 1)
+  off_short never l off = elim (find_below (λ s. sbf (t + 1 - s) + get_or counts s 0 ≤ get_or counts t 0) (λ s. get_or counts t 0 < sbf (t + 1 - s) + get_or counts s 0) (λ s. elim (cases_lt (get_or counts t 0) (sbf (t + 1 - s) + get_or counts s 0)) [ inl c ↦ inr c | inr c ↦ inl c ]) (t + 1)) [
+    | inl all ↦ absurd (never (λ s h. all s (omega arith)))
+    | inr s ↦ record {
+      start = s.0;
+      within = omega (arith, s.1);
+      few = omega (arith, s.2, window_now s.0 (omega (arith, s.1)) l, ap (λ (b : Bool). cond {A = ℕ} b 1 0) off);
+    }
+  ]
+
+-- the counts so far, and the last of them
+pub record KeepsCount (run : Run) (xs : List ℕ) (t x : ℕ) : Type 0 where
+  pub counts : AreCounts run xs t
+  pub supplied : x ≡ ticks_in is_on run 0 t
+  pub few : x ≤ t
+
+pub count_start : (run : Run) (xs : List ℕ) → xs ≡ 0 ∷ [] → KeepsCount run xs 0 0
+count_start run xs e = record { counts = counts_start run xs e; supplied = omega (arith, ticks_in_none is_on run 0); few = omega arith }
+
+pub count_on : (run : Run) (xs : List ℕ) (t x y : ℕ) → t < length run.ticks → KeepsCount run xs t x → is_on (tick_at run t) ≡ true → y ≡ x + 1 → KeepsCount run (xs ++ y ∷ []) (t + 1) y
+count_on run xs t x y h kept on e =
+    let is : y ≡ ticks_in is_on run 0 (t + 1) = omega (arith, kept.supplied, supplied_more run t h, ap (λ (b : Bool). cond {A = ℕ} b 1 0) on) in
+    record { counts = counts_more run xs t y kept.counts is; supplied = is; few = omega (arith, kept.few) }
+
+pub count_off : (run : Run) (xs : List ℕ) (t x y : ℕ) → t < length run.ticks → KeepsCount run xs t x → is_on (tick_at run t) ≡ false → y ≡ x → KeepsCount run (xs ++ y ∷ []) (t + 1) y
+count_off run xs t x y h kept off e =
+    let is : y ≡ ticks_in is_on run 0 (t + 1) = omega (arith, kept.supplied, supplied_more run t h, ap (λ (b : Bool). cond {A = ℕ} b 1 0) off) in
+    record { counts = counts_more run xs t y kept.counts is; supplied = is; few = omega (arith, kept.few) }
+
+pub refused : {P : Type 0} (b : Bool) → not b ≡ true → (P → b ≡ true) → P → ⊥
+refused true h f p = cc
+refused false h f p = let t = f p in cc
+
+pub refuses : {P : Type 0} (b : Bool) → (b ≡ true → P) → (P → ⊥) → not b ≡ true
+refuses true f g = absurd (g (f refl))
+refuses false f g = refl

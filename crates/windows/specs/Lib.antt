@@ -1,0 +1,5 @@
+pub mod Arrivals
+pub mod Steps
+pub mod Supplied
+pub mod Crowds
+pub mod Spans

@@ -1,0 +1,77 @@
+//! Whether as many ticks are supplied as promised.
+ghost use Rattle.std.specs.Prelude.{◌≡◌, ◌+◌, ◌<◌, ◌≤◌, ◌↔◌, ℕ, length, IsTrue, IfOk};
+ghost use Rattle.lists.specs.Searches.{IsFirstBelow};
+ghost use Rattle.run_model.specs.Runs.{is_on as is_on_by};
+ghost use Rattle.schedule_laws.specs.Tests.{IsShort};
+ghost use Rattle.supply.specs.Promises.{sbf_of};
+ghost use Rattle.windows.specs.Supplied.{ArePromised, MayBeOff, AreCounts};
+
+use run_model::{Run, Tick};
+use std::alloc::{AllocError, Global};
+use task_sheet::{Sheet, SupplySpec};
+
+/// Whether tick `t` may be off, where `counts` has the number of supplied ticks before each of the
+/// ticks `0, .., t`.
+///
+/// It looks at the windows, up to one horizon, whose length is one of the promised times.
+pub fn off_allowed(sheet: &Sheet, counts: &[u64], t: u64) -> bool
+    requires { ArePromised (sbf_of sheet.now.supply) counts.now t }
+    ensures { IsTrue result ↔ MayBeOff (sbf_of sheet.now.supply) counts.now t }
+{
+    let SupplySpec::Promised { horizon: _, times } = sheet.supply() else {
+        return false;
+    };
+    for (i, time) in times.as_slice().iter().enumerate() {
+        if *time > t + 1 {
+            break;
+        }
+        let supplied = counts[t as usize] - counts[(t + 1 - *time) as usize];
+        if supplied <= i as u64 {
+            return false;
+        }
+    }
+    true
+}
+
+/// Whether the tick is supplied.
+fn is_on(tick: Tick) -> bool
+    ensures { result ≡ is_on_by tick }
+{
+    match tick {
+        Tick::Idle | Tick::Runs(_) => true,
+        Tick::Off => false,
+    }
+}
+
+/// Whether some window that ends with tick `t` has fewer supplied ticks than promised, where none
+/// that ends earlier has.
+///
+/// With a tick that is supplied none has.
+fn is_short(sheet: &Sheet, run: &Run, counts: &[u64], t: u64) -> bool
+    requires tick { t < length run.now.ticks }
+    requires counts { AreCounts run.now counts.now t }
+    requires free { (u : ℕ) → u < t → IsShort (sbf_of sheet.now.supply) run.now (u + 1) → ⊥ }
+    ensures { IsTrue result ↔ IsShort (sbf_of sheet.now.supply) run.now (t + 1) }
+{
+    let _tasks = sheet.len();
+    !is_on(run.ticks.as_slice()[t as usize]) && !off_allowed(sheet, counts, t)
+}
+
+/// The first tick with which some window ends that has fewer supplied ticks than promised.
+pub fn first_short(alloc: Global, sheet: &Sheet, run: &Run) -> Result<Option<u64>, AllocError>
+    requires { length run.now.ticks ≤ 100000 }
+    ensures { IfOk result (λ r. IsFirstBelow (λ t. IsShort (sbf_of sheet.now.supply) run.now (t + 1)) (length run.now.ticks) r) }
+{
+    let mut supplied = 0;
+    let mut counts = vec![in alloc; supplied]?;
+    for t in 0..run.ticks.len() as u64 {
+        if is_short(sheet, run, &counts, t) {
+            return Ok(Some(t));
+        }
+        if is_on(run.ticks.as_slice()[t as usize]) {
+            supplied += 1;
+        }
+        counts.push(supplied)?;
+    }
+    Ok(None)
+}

@@ -10,3 +10,4 @@ pub mod OrderFacts
 pub mod FrontFacts
 pub mod SegmentFacts
 pub mod WaitFacts
+pub mod CutFacts

@@ -4,7 +4,6 @@ use Rattle.std.proofs.lemmas.Bool.{cases_lt}
 use Rattle.std.proofs.lemmas.List.Elements.{All-get_or}
 use Rattle.task_sheet.specs.SheetParts.{SheetParts}
 use Rattle.task_sheet.specs.Sheets.{task_at}
-use Rattle.task_sheet.specs.declared.tasks.Task.{Task}
 use Rattle.task_sheet.specs.declared.tasks.Job.{Job}
 use Rattle.preemption.specs.CutMeaning.{CutMeaning}
 use Rattle.run_model.specs.declared.run.Run.{Run}
@@ -38,6 +37,6 @@ small_from run h = record {
   ];
 }
 
--- whether a job can be cut, as it was read
-pub cut_read : (m : CutMeaning) (sheet : SheetParts) (run : Run) (t k s : ℕ) (task : Task) (job : Job) (r : Bool) → r ≡ m.cuttable task job s → task ≡ task_at sheet job.task → job ≡ job_at run k → s ≡ service_of run k t → can_cut m sheet run k t ≡ r
-cut_read m sheet run t k s task job r given of_job is at = cc
+-- whether a job can be cut at t, by the service that it has had
+pub cut_read : (m : CutMeaning) (sheet : SheetParts) (run : Run) (t k s : ℕ) (r : Bool) → r ≡ m.cuttable (task_at sheet (job_at run k).task) (job_at run k) s → s ≡ service_of run k t → can_cut m sheet run k t ≡ r
+cut_read m sheet run t k s r given at = cc

@@ -1,22 +1,18 @@
 use Rattle.std.proofs.Common.{◌≡◌, ◌≢◌, ℕ, suc, ◌+◌, ◌-◌, ◌<◌, ◌≤◌, ◌&&◌, Bool, true, false, not, cond, max, List, length, get_or, Option, Some, None, refl, sym, ◌∙◌, ap, subst, inl, inr, arith, add-one, replicate, leb}
 use Rattle.std.proofs.lemmas.Bool.{cases_eq, not_from_true, not_from_false, leb-true, leb-false, le-leb, eq-eqb, ne_eqb}
-use Rattle.std.proofs.lemmas.Bool.Decides.{nat_tests}
 use Rattle.std.proofs.lemmas.List.{get_or-set_same, get_or-set_other, length-set, length-replicate, get_or-replicate}
 use Rattle.std.proofs.Math.ListN.{set}
 use Rattle.lists.specs.Firsts.{first_of, must, first_below}
 use Rattle.lists.proofs.FirstFacts.{none_from, must_from}
 use Rattle.run_model.specs.declared.run.Run.{Run}
 use Rattle.run_model.specs.declared.run.Tick.TheVariants.{Runs}
-use Rattle.run_model.specs.Runs.{job_at, tick_at, service_of}
+use Rattle.run_model.specs.Runs.{job_at, tick_at, service_of, is_done}
+use Rattle.run_model.proofs.PendingFacts.{undone}
 use Rattle.run_model.proofs.ServiceFacts.{service_none, step_cases, service_le, same_job}
 use Rattle.audit.specs.declared.verdict.Seen.{Seen}
-use Rattle.audit.specs.Tests.{is_done}
 use Rattle.audit.specs.Responses.{since, done_before, response_of, is_of, seen_among}
 use Rattle.audit.specs.Relations.{ArePositive, AreValid, IsResponse, AreResponses, with_job}
 use Rattle.audit.proofs.SearchFacts.{must_fails}
-
-undone : (c s : ℕ) → s < c → leb c s ≡ false
-undone c s h = grind (arith, nat_tests)
 
 first_some : {F : Type 0} (a : Option F) (x : F) (later : Option F) → first_of (first_of a (Some x)) later ≡ first_of a (Some x)
 first_some (Some f) x later = refl

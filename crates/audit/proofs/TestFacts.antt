@@ -1,6 +1,5 @@
-use Rattle.std.proofs.Common.{◌≡◌, ℕ, ◌+◌, ◌-◌, ◌<◌, ◌≤◌, ◌≢◌, ◌==◌, ◌&&◌, Bool, true, false, not, length, refl, sym, ◌∙◌, ap, inl, inr, arith, leb, ltb}
+use Rattle.std.proofs.Common.{◌≡◌, ℕ, ◌+◌, ◌-◌, ◌<◌, ◌≤◌, ◌≢◌, ◌==◌, ◌&&◌, Bool, true, false, not, length, refl, sym, ◌∙◌, ap, inl, inr, arith, ltb}
 use Rattle.std.proofs.lemmas.Bool.{cases_Bool, and_parts, and_from, both_ways, false_from_ne_true, not-true, not_from_false, leb-true, leb-false, le-leb, ltb-true, lt-ltb, eqb-true, eq-eqb}
-use Rattle.std.proofs.lemmas.Bool.Decides.{nat_tests}
 use Rattle.lists.specs.Firsts.{all_below}
 use Rattle.lists.proofs.FirstFacts.{all_parts, all_from, all_broken}
 use Rattle.curve.specs.Curves.{alpha_of}
@@ -12,11 +11,12 @@ use Rattle.preemption.specs.CutMeaning.{CutMeaning}
 use Rattle.run_model.specs.declared.run.Run.{Run}
 use Rattle.run_model.specs.declared.run.Tick.{Tick}
 use Rattle.run_model.specs.declared.run.Tick.TheVariants.{Off, Idle, Runs}
-use Rattle.run_model.specs.Runs.{job_at, tick_at, runs, is_on, service_of, ticks_in, IsDone, IsPending}
+use Rattle.run_model.specs.Runs.{job_at, tick_at, runs, is_on, service_of, ticks_in, is_done, is_pending, IsDone}
+use Rattle.run_model.proofs.PendingFacts.{undone, pending_from, pending_to}
 use Rattle.run_model.proofs.ServiceFacts.{runs_tells, runs_self}
 use Rattle.schedule_laws.specs.Compliance.{arrivals_of, can_cut, JobFits, MayRun}
 use Rattle.schedule_laws.specs.Tests.{IsValidAt, IsIdleBroken, IsSegmentBroken, IsPriorityBroken, IsShort, IsCrowded}
-use Rattle.audit.specs.Tests.{does_fit, is_done, is_pending, holds_back, is_in_order, may_run, may_be_at, is_valid_at, is_within_curve, is_crowded, is_supplied, is_short, is_idle, is_idle_broken, is_segment_broken, overtakes, is_priority_broken}
+use Rattle.audit.specs.Tests.{does_fit, holds_back, is_in_order, may_run, may_be_at, is_valid_at, is_within_curve, is_crowded, is_supplied, is_short, is_idle, is_idle_broken, is_segment_broken, overtakes, is_priority_broken}
 use Rattle.audit.proofs.SearchFacts.{some_broken}
 
 pub fit_from : (m : CutMeaning) (sheet : SheetParts) (run : Run) (k : ℕ) → does_fit m sheet run k ≡ true → JobFits m sheet run k
@@ -27,24 +27,6 @@ fit_from m sheet run k h =
 pub fit_to : (m : CutMeaning) (sheet : SheetParts) (run : Run) (k : ℕ) → JobFits m sheet run k → does_fit m sheet run k ≡ true
 fit_to m sheet run k f =
     and_from (ltb (job_at run k).task (length sheet.tasks)) (m.fits (task_at sheet (job_at run k).task) (job_at run k)) (lt-ltb (job_at run k).task (length sheet.tasks) f.task) f.fit
-
-pub pending_from : (run : Run) (k t : ℕ) → is_pending run k t ≡ true → IsPending run k t
-pending_from run k t h =
-    let parts = and_parts (ltb k (length run.jobs)) (leb (job_at run k).arrival t && not (is_done run k t)) h in
-    let more = and_parts (leb (job_at run k).arrival t) (not (is_done run k t)) parts.1 in
-    record {
-      listed = ltb-true k (length run.jobs) parts.0;
-      arrived = leb-true (job_at run k).arrival t more.0;
-      not_done = leb-false (job_at run k).cost (service_of run k t) (not-true (is_done run k t) more.1);
-    }
-
-undone : (c s : ℕ) → s < c → leb c s ≡ false
-undone c s h = grind (arith, nat_tests)
-
-pub pending_to : (run : Run) (k t : ℕ) → IsPending run k t → is_pending run k t ≡ true
-pending_to run k t p =
-    and_from (ltb k (length run.jobs)) (leb (job_at run k).arrival t && not (is_done run k t)) (lt-ltb k (length run.jobs) p.listed)
-    (and_from (leb (job_at run k).arrival t) (not (is_done run k t)) (le-leb (job_at run k).arrival t p.arrived) (not_from_false (is_done run k t) (undone (job_at run k).cost (service_of run k t) p.not_done)))
 
 in_order_from : (run : Run) (k t n : ℕ) → is_in_order run k t ≡ true → n < length run.jobs → (job_at run n).task ≡ (job_at run k).task → (job_at run n).arrival < (job_at run k).arrival → IsDone run n t
 in_order_from run k t n h b same earlier = elim (cases_Bool (is_done run n t)) [

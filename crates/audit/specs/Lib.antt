@@ -4,3 +4,4 @@ pub mod Responses
 pub mod Verdicts
 pub mod Relations
 pub mod Fronts
+pub mod CutSums

@@ -5,9 +5,8 @@ use Rattle.policy.specs.PolicyMeaning.{PolicyMeaning}
 use Rattle.preemption.specs.CutMeaning.{CutMeaning}
 use Rattle.run_model.specs.declared.run.Run.{Run}
 use Rattle.run_model.specs.declared.run.Tick.TheVariants.{Runs}
-use Rattle.run_model.specs.Runs.{job_at, tick_at, service_of}
+use Rattle.run_model.specs.Runs.{job_at, tick_at, service_of, is_done}
 use Rattle.audit.specs.declared.verdict.Seen.{Seen}
-use Rattle.audit.specs.Tests.{is_done}
 use Rattle.audit.specs.Responses.{since, done_before}
 use Rattle.schedule_laws.specs.Compliance.{JobFits}
 use Rattle.schedule_laws.specs.Tests.{IsValidAt, IsIdleBroken, IsSegmentBroken, IsPriorityBroken}

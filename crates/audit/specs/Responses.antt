@@ -3,9 +3,8 @@ use Rattle.std.specs.Prelude.{ℕ, zero, suc, not, ◌+◌, ◌-◌, ◌==◌, �
 use Rattle.lists.specs.Sums.{sum_below, max_below}
 use Rattle.lists.specs.Firsts.{must, first_below}
 use Rattle.run_model.specs.declared.run.Run.{Run}
-use Rattle.run_model.specs.Runs.{job_at}
+use Rattle.run_model.specs.Runs.{job_at, is_done}
 use Rattle.audit.specs.declared.verdict.Seen.{Seen}
-use Rattle.audit.specs.Tests.{is_done}
 
 -- the first tick before n at which job k is done
 unfoldable pub done_before : Run → ℕ → ℕ → Option ℕ

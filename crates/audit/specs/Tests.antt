@@ -10,20 +10,12 @@ use Rattle.preemption.specs.CutMeaning.{CutMeaning}
 use Rattle.run_model.specs.declared.run.Run.{Run}
 use Rattle.run_model.specs.declared.run.Tick.{Tick}
 use Rattle.run_model.specs.declared.run.Tick.TheVariants.{Off, Idle, Runs}
-use Rattle.run_model.specs.Runs.{job_at, tick_at, runs, is_on, service_of, ticks_in}
+use Rattle.run_model.specs.Runs.{job_at, tick_at, runs, is_on, ticks_in, is_done, is_pending}
 use Rattle.schedule_laws.specs.Compliance.{arrivals_of, can_cut}
 
 -- job k is of a task of the sheet, and fits it
 abbrev pub does_fit : CutMeaning → SheetParts → Run → ℕ → Bool
 does_fit m sheet run k = nat_lt (job_at run k).task (length sheet.tasks) && m.fits (task_at sheet (job_at run k).task) (job_at run k)
-
--- job k has had the service that it needs
-abbrev pub is_done : Run → ℕ → ℕ → Bool
-is_done run k t = nat_le (job_at run k).cost (service_of run k t)
-
--- job k is there, has arrived and is not done
-abbrev pub is_pending : Run → ℕ → ℕ → Bool
-is_pending run k t = nat_lt k (length run.jobs) && (nat_le (job_at run k).arrival t && not (is_done run k t))
 
 -- job n, of the same task, arrived before job k and is not done
 abbrev pub holds_back : Run → ℕ → ℕ → ℕ → Bool

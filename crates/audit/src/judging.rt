@@ -7,6 +7,7 @@ ghost use Rattle.audit.specs.Faults.{first_broken as first_broken_of};
 ghost use Rattle.audit.specs.Relations.{IsSmall};
 ghost use Rattle.audit.specs.Verdicts.{verdict_of, TellsCompliance};
 
+use crate::cuts::cut_sums;
 use crate::jobs::{first_crowd, first_unfit};
 use crate::seen::seen_tasks;
 use crate::ticks::{first_idling, first_invalid, first_overtaken, first_segment, first_shortage};
@@ -49,11 +50,12 @@ fn first_broken<P: Policy, M: Preemption>(
     if idling.is_some() {
         return Ok(idling);
     }
-    let segment = first_segment::<M>(alloc, sheet, run)?;
+    let sums = cut_sums::<M>(alloc, sheet, run)?;
+    let segment = first_segment::<M>(alloc, sheet, run, &sums)?;
     if segment.is_some() {
         return Ok(segment);
     }
-    first_overtaken::<P, M>(alloc, sheet, run)
+    first_overtaken::<P, M>(alloc, sheet, run, &sums)
 }
 
 /// The verdict on a run: whether it complies with the sheet, else the first rule that it breaks.

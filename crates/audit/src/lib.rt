@@ -2,6 +2,7 @@
 #![tactic(auto)]
 
 mod arrivals;
+mod cuts;
 mod idling;
 mod jobs;
 mod judging;

@@ -2,12 +2,15 @@
 ghost use Rattle.std.specs.Prelude.{◌≡◌, ◌<◌, ◌↔◌, ℕ, IfOk, IsTrue, length};
 ghost use Rattle.lists.specs.Searches.{IsFirstBelow};
 ghost use Rattle.policy.specs.PolicyLaws.{IsOf};
+ghost use Rattle.preemption.specs.CutLaws.{Serves};
 ghost use Rattle.run_model.specs.Runs.{job_at, tick_at};
 ghost use Rattle.run_model.specs.declared.run.Tick.TheVariants.{Runs};
 ghost use Rattle.schedule_laws.specs.Tests.{AreOf};
+ghost use Rattle.audit.specs.CutSums.{AreSums};
 ghost use Rattle.audit.specs.Fronts.{IsMoreUrgent, IsProgress, IsListed, IsOvertaken};
 ghost use Rattle.audit.specs.Relations.{IsSmall, IsPriorityTick};
 
+use crate::cuts::can_cut_job;
 use crate::progress::Progress;
 use policy::{Key, Policy};
 use preemption::Preemption;
@@ -59,12 +62,15 @@ fn is_overtaken<P: Policy>(
 fn is_priority_broken<P: Policy, M: Preemption>(
     sheet: &Sheet,
     run: &Run,
+    sums: &[Vec<u64>],
     progress: &mut Progress,
     t: u64,
 ) -> bool
     requires small { IsSmall run.now }
     requires tick { t < length run.now.ticks }
     requires tasks { AreOf sheet.now run.now }
+    requires served { Serves M.cuts sheet.now }
+    requires sums { AreSums run.now sums.now }
     requires progress { IsProgress run.now t progress.old }
     ensures broken { IsTrue result ↔ IsPriorityTick P.meaning M.cuts sheet.now run.now t }
     ensures progress { IsProgress run.now t progress.new }
@@ -73,7 +79,7 @@ fn is_priority_broken<P: Policy, M: Preemption>(
         return false;
     };
     let job = &run.jobs.as_slice()[k as usize];
-    M::cuttable(sheet.task(job.task), job, progress.served[k as usize])
+    can_cut_job::<M>(sheet, run, sums, k, progress.served[k as usize])
         && is_overtaken::<P>(sheet, run, progress, P::key(sheet, job), t)
 }
 
@@ -82,14 +88,17 @@ pub fn priority_tick<P: Policy, M: Preemption>(
     alloc: Global,
     sheet: &Sheet,
     run: &Run,
+    sums: &[Vec<u64>],
 ) -> Result<Option<u64>, AllocError>
     requires small { IsSmall run.now }
     requires tasks { AreOf sheet.now run.now }
+    requires served { Serves M.cuts sheet.now }
+    requires sums { AreSums run.now sums.now }
     ensures { IfOk result (IsFirstBelow (IsPriorityTick P.meaning M.cuts sheet.now run.now) (length run.now.ticks)) }
 {
     let mut progress = Progress::new(alloc, run, sheet.len())?;
     for t in 0..run.ticks.len() as u64 {
-        if is_priority_broken::<P, M>(sheet, run, &mut progress, t) {
+        if is_priority_broken::<P, M>(sheet, run, sums, &mut progress, t) {
             return Ok(Some(t));
         }
         progress.serve(run, t);

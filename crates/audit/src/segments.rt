@@ -6,9 +6,11 @@ ghost use Rattle.policy.specs.PolicyLaws.{IsOf};
 ghost use Rattle.run_model.specs.Runs.{job_at, tick_at};
 ghost use Rattle.schedule_laws.specs.Compliance.{can_cut};
 ghost use Rattle.schedule_laws.specs.Tests.{AreOf};
+ghost use Rattle.audit.specs.CutSums.{AreSums};
 ghost use Rattle.audit.specs.Fronts.{Leaves, OnlyFails};
 ghost use Rattle.audit.specs.Relations.{IsSmall, IsServed, AreFitting, IsSegmentTick};
 
+use crate::cuts::can_cut_job;
 use crate::services::{no_service, serve};
 use preemption::Preemption;
 use run_model::{Run, Tick};
@@ -30,12 +32,15 @@ fn leaves(tick: Tick, inside: Option<u32>) -> bool
 fn inside_after<M: Preemption>(
     sheet: &Sheet,
     run: &Run,
+    sums: &[Vec<u64>],
     served: &[u64],
     inside: Option<u32>,
     t: u64,
 ) -> Option<u32>
     requires small { IsSmall run.now }
     requires tasks { AreOf sheet.now run.now }
+    requires kind { Serves M.cuts sheet.now }
+    requires sums { AreSums run.now sums.now }
     requires tick { t < length run.now.ticks }
     requires served { IsServed run.now (t + 1) served.now }
     requires inside { OnlyFails (λ k. can_cut M.cuts sheet.now run.now k t) (length run.now.jobs) inside }
@@ -45,8 +50,7 @@ fn inside_after<M: Preemption>(
     let Tick::Runs(k) = run.ticks.as_slice()[t as usize] else {
         return inside;
     };
-    let job = &run.jobs.as_slice()[k as usize];
-    if M::cuttable(sheet.task(job.task), job, served[k as usize]) {
+    if can_cut_job::<M>(sheet, run, sums, k, served[k as usize]) {
         None
     } else {
         Some(k)
@@ -58,10 +62,12 @@ pub fn segment_tick<M: Preemption>(
     alloc: Global,
     sheet: &Sheet,
     run: &Run,
+    sums: &[Vec<u64>],
 ) -> Result<Option<u64>, AllocError>
     requires small { IsSmall run.now }
     requires fit { AreFitting M.cuts sheet.now run.now }
     requires served { Serves M.cuts sheet.now }
+    requires sums { AreSums run.now sums.now }
     ensures { IfOk result (IsFirstBelow (IsSegmentTick M.cuts sheet.now run.now) (length run.now.ticks)) }
 {
     let _valid = sheet.len();
@@ -72,7 +78,7 @@ pub fn segment_tick<M: Preemption>(
             return Ok(Some(t));
         }
         serve(run, &mut served, t);
-        inside = inside_after::<M>(sheet, run, &served, inside, t);
+        inside = inside_after::<M>(sheet, run, sums, &served, inside, t);
     }
     Ok(None)
 }

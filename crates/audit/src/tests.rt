@@ -35,6 +35,14 @@ fn never_preempted(alloc: Global) -> Result<Sheet, Fail> {
     Ok(Sheet::check(PolicyKind::Fp, SupplySpec::Unit, tasks)?)
 }
 
+/// A task `a`, and a task `b` that is less urgent and preempted between segments.
+fn between_segments(alloc: Global, cut: Cut) -> Result<Sheet, Fail> {
+    let mut tasks = Vec::new(alloc);
+    tasks.push(make_task(alloc, (1, 8, 2), Cut::Full)?)?;
+    tasks.push(make_task(alloc, (4, 8, 1), cut)?)?;
+    Ok(Sheet::check(PolicyKind::Fp, SupplySpec::Unit, tasks)?)
+}
+
 fn one_task(alloc: Global) -> Result<Sheet, Fail> {
     let mut tasks = Vec::new(alloc);
     tasks.push(make_task(alloc, (2, 5, 1), Cut::Full)?)?;
@@ -124,6 +132,39 @@ fn each_rule_is_broken(rt: HostRuntime) -> Result<(), Fail> {
     for (sheet, text, rule, job, tick) in rows {
         let verdict = judge(rt.alloc(), sheet, text)?;
         assert_eq!(rt; verdict, AuditVerdict::Broken { rule, job, tick });
+    }
+    Ok(())
+}
+
+#[test]
+fn jobs_are_cut_between_their_segments(rt: HostRuntime) -> Result<(), Fail> {
+    let alloc = rt.alloc();
+    let segments = Items::new([2u64, 1, 1].to_vec(alloc)?);
+    let fixed = between_segments(alloc, Cut::Fixed(segments))?;
+    let floating = between_segments(alloc, Cut::Floating(2))?;
+    // A job of b has segments of 2, 1 and 1 ticks, and a job of a arrives at tick 1.
+    let jobs = b"poet-run 1\njobs 2 ticks 5\nj 1 0 4 2 1 1\nj 0 1 1\n";
+    let cut: &[u8] = b"run 0 2\nrun 1 1\nrun 0 2\nend\n";
+    let early: &[u8] = b"run 0 1\nrun 1 1\nrun 0 3\nend\n";
+    let late: &[u8] = b"run 0 3\nrun 1 1\nrun 0 1\nend\n";
+    let inside = Some((Rule::Segment, Some(0), Some(1)));
+    let overtaken = Some((Rule::Priority, Some(1), Some(2)));
+    let rows = [
+        (&fixed, cut, None),
+        (&fixed, early, inside),
+        (&fixed, late, overtaken),
+        (&floating, cut, None),
+        (&floating, early, inside),
+        (&floating, late, overtaken),
+    ];
+    for (sheet, ticks, expected) in rows {
+        let mut text = jobs.to_vec(alloc)?;
+        text.extend_from_slice(ticks)?;
+        let broken = match judge(alloc, sheet, &text)? {
+            AuditVerdict::Compliant(_) => None,
+            AuditVerdict::Broken { rule, job, tick } => Some((rule, job, tick)),
+        };
+        assert_eq!(rt; broken, expected);
     }
     Ok(())
 }

@@ -4,6 +4,7 @@ ghost use Rattle.lists.specs.Searches.{IsFirstBelow};
 ghost use Rattle.preemption.specs.CutLaws.{Serves};
 ghost use Rattle.supply.specs.Promises.{sbf_of};
 ghost use Rattle.schedule_laws.specs.Tests.{AreOf, IsShort, IsValidAt};
+ghost use Rattle.audit.specs.CutSums.{AreSums};
 ghost use Rattle.audit.specs.Faults.{fault_at, invalid_in, short_in, idle_in, segment_in, priority_in};
 ghost use Rattle.audit.specs.Relations.{IsSmall, AreFitting, AreValid, IsIdleTick, IsSegmentTick, IsPriorityTick};
 
@@ -85,13 +86,15 @@ pub fn first_segment<M: Preemption>(
     alloc: Global,
     sheet: &Sheet,
     run: &Run,
+    sums: &[Vec<u64>],
 ) -> Result<Option<Fault>, AllocError>
     requires small { IsSmall run.now }
     requires fit { AreFitting M.cuts sheet.now run.now }
     requires served { Serves M.cuts sheet.now }
+    requires sums { AreSums run.now sums.now }
     ensures { IfOk result (λ f. f ≡ segment_in M.cuts sheet.now run.now) }
 {
-    match segment_tick::<M>(alloc, sheet, run)? {
+    match segment_tick::<M>(alloc, sheet, run, sums)? {
         Some(t) => Ok(fault_of(Rule::Segment, segment_broken::<M>(sheet, run, t), t)),
         None => Ok(None),
     }
@@ -102,12 +105,15 @@ pub fn first_overtaken<P: Policy, M: Preemption>(
     alloc: Global,
     sheet: &Sheet,
     run: &Run,
+    sums: &[Vec<u64>],
 ) -> Result<Option<Fault>, AllocError>
     requires small { IsSmall run.now }
     requires tasks { AreOf sheet.now run.now }
+    requires served { Serves M.cuts sheet.now }
+    requires sums { AreSums run.now sums.now }
     ensures { IfOk result (λ f. f ≡ priority_in P.meaning M.cuts sheet.now run.now) }
 {
-    match priority_tick::<P, M>(alloc, sheet, run)? {
+    match priority_tick::<P, M>(alloc, sheet, run, sums)? {
         Some(t) => Ok(fault_of(Rule::Priority, priority_broken::<P, M>(sheet, run, t), t)),
         None => Ok(None),
     }

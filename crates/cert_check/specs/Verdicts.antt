@@ -1,4 +1,4 @@
-use Rattle.std.specs.Prelude.{◌≡◌, ℕ, Bool, List, map, length, Option, Some, None, Result, Ok, Err}
+use Rattle.std.specs.Prelude.{◌≡◌, ℕ, Bool, true, false, List, map, length, Option, Some, None, Result, Ok, Err}
 use Rattle.certificate.specs.declared.cert.Cert.{Cert}
 use Rattle.certificate.specs.declared.refusal.CertRefusal.{CertRefusal}
 use Rattle.certificate.specs.declared.refusal.CertRefusal.TheVariants as refusal
@@ -51,12 +51,18 @@ IsVerdict p m sbf sheet deadlines bytes (Accepted bounds) = IsAccepted p m sbf s
 IsVerdict p m sbf sheet deadlines bytes (Text line) = IsRefusedAt bytes line
 IsVerdict p m sbf sheet deadlines bytes (Refused failed) = IsRefused p m sbf sheet deadlines bytes failed
 
+-- where deadlines are judged, none is missed: they bound the response times of every compliant run
+abbrev pub AreInTime : PolicyMeaning → CutMeaning → (ℕ → ℕ) → SheetParts → Bool → Type 0
+AreInTime p m sbf sheet false = Unit {0}
+AreInTime p m sbf sheet true = AreBounded p m sbf sheet (map (λ t. t.deadline) sheet.tasks)
+
 -- bounds that are accepted are one for each task, and bound the response times of every compliant run
-pub record AreSound (p : PolicyMeaning) (m : CutMeaning) (sbf : ℕ → ℕ) (sheet : SheetParts) (bounds : List ℕ) : Type 0 where
+pub record AreSound (p : PolicyMeaning) (m : CutMeaning) (sbf : ℕ → ℕ) (sheet : SheetParts) (deadlines : Bool) (bounds : List ℕ) : Type 0 where
   pub count : length bounds ≡ length sheet.tasks
   pub bounded : AreBounded p m sbf sheet bounds
+  pub in_time : AreInTime p m sbf sheet deadlines
 
-abbrev pub IsBoundedBy : PolicyMeaning → CutMeaning → (ℕ → ℕ) → SheetParts → Verdict → Type 0
-IsBoundedBy p m sbf sheet (Accepted bounds) = AreSound p m sbf sheet bounds
-IsBoundedBy p m sbf sheet (Text line) = Unit {0}
-IsBoundedBy p m sbf sheet (Refused failed) = Unit {0}
+abbrev pub IsBoundedBy : PolicyMeaning → CutMeaning → (ℕ → ℕ) → SheetParts → Bool → Verdict → Type 0
+IsBoundedBy p m sbf sheet deadlines (Accepted bounds) = AreSound p m sbf sheet deadlines bounds
+IsBoundedBy p m sbf sheet deadlines (Text line) = Unit {0}
+IsBoundedBy p m sbf sheet deadlines (Refused failed) = Unit {0}

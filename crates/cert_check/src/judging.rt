@@ -43,7 +43,8 @@ fn bounds(alloc: Global, cert: &Cert) -> Result<Items<u64>, AllocError>
 /// bound is at most its task's deadline.
 ///
 /// Where there is none, the response times of every run that complies with the sheet are bounded by
-/// the certificate's bounds. Its counts and numbers must be within the grammar.
+/// the certificate's bounds, and with `deadlines` by the tasks' deadlines. Its counts and numbers must
+/// be within the grammar.
 pub fn judge_cert<P: Policy, M: Preemption, S: Supply>(
     sheet: &Sheet,
     supply: &S,
@@ -53,7 +54,7 @@ pub fn judge_cert<P: Policy, M: Preemption, S: Supply>(
     requires fits { IsWithinGrammar cert.now }
     requires served { Serves M.cuts sheet.now }
     ensures defined { result ≡ failed_of P.meaning M.cuts (S.sbf supply.now) sheet.now deadlines cert.now }
-    ensures bounded { result ≡ None → AreSound P.meaning M.cuts (S.sbf supply.now) sheet.now (bounds_of cert.now) }
+    ensures bounded { result ≡ None → AreSound P.meaning M.cuts (S.sbf supply.now) sheet.now deadlines (bounds_of cert.now) }
 {
     supply.known();
     failed_means::<P, M, S>();
@@ -66,7 +67,7 @@ pub fn judge_cert<P: Policy, M: Preemption, S: Supply>(
 /// most its task's deadline.
 ///
 /// Where the verdict is `Accepted`, the response times of every run that complies with the sheet
-/// are bounded by the bounds.
+/// are bounded by the bounds, and with `deadlines` by the tasks' deadlines.
 #[tactic(auto, unfolding(crate::specs::Verdicts::verdict_of))]
 pub fn check_cert<P: Policy, M: Preemption, S: Supply>(
     alloc: Global,
@@ -78,7 +79,7 @@ pub fn check_cert<P: Policy, M: Preemption, S: Supply>(
     requires { Serves M.cuts sheet.now }
     ensures defined { IfOk result (λ v. v ≡ verdict_of P.meaning M.cuts (S.sbf supply.now) sheet.now deadlines bytes.now) }
     ensures judged { IfOk result (IsVerdict P.meaning M.cuts (S.sbf supply.now) sheet.now deadlines bytes.now) }
-    ensures bounded { IfOk result (IsBoundedBy P.meaning M.cuts (S.sbf supply.now) sheet.now) }
+    ensures bounded { IfOk result (IsBoundedBy P.meaning M.cuts (S.sbf supply.now) sheet.now deadlines) }
 {
     let cert = match read_cert(alloc, bytes) {
         Ok(cert) => cert,

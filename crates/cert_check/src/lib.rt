@@ -2,5 +2,7 @@
 #![tactic(auto)]
 
 mod judging;
+mod laws;
 
 pub use judging::{Verdict, check_cert, judge_cert};
+pub use laws::accepted_is_sound;

@@ -9,7 +9,7 @@ use Rattle.task_sheet.specs.SheetParts.{SheetParts}
 use Rattle.policy.specs.Policies.{edf_meaning}
 use Rattle.preemption.specs.Kinds.{per_task_meaning}
 use Rattle.run_model.specs.declared.run.Run.{Run}
-use Rattle.run_model.specs.Runs.{job_at, IsDone}
+use Rattle.run_model.specs.Runs.{job_at, is_done, IsDone}
 use Rattle.schedule_laws.specs.Bounded.{IsBounded}
 use Rattle.abstract_rta.specs.Bounds.{PointsBound}
 use Rattle.certificate.specs.declared.cert.Entry.{Entry}
@@ -17,7 +17,6 @@ use Rattle.certificate.specs.Text.{IsEntry}
 use Rattle.conditions.specs.Conditions.{no_entry, entry_at}
 use Rattle.conditions.proofs.MeetFacts.{cert_means}
 use Rattle.audit.specs.declared.verdict.Seen.{Seen}
-use Rattle.audit.specs.Tests.{is_done}
 use Rattle.audit.specs.Responses.{since, done_before, response_of, is_of, seen_among, seen_of, seen_below}
 use Rattle.generated_sheet.specs.GeneratedSheet.{generated_sheet}
 use Rattle.generated_sheet.proofs.SheetFacts.{sheet_count, sheet_valid}

@@ -1,3 +1,5 @@
 pub mod LineFacts
-pub mod WordFacts
 mod SeenFacts
+mod LengthFacts
+mod AnalysisFacts
+mod SimulationFacts

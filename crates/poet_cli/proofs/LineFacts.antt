@@ -1,4 +1,4 @@
-use Rattle.std.proofs.Common.{◌≡◌, ℕ, ◌+◌, ◌<◌, ◌≤◌, List, ◌++◌, length, get_or, drop, add-one, drop-cons, Option, Result, Ok, IsErr, refl, arith}
+use Rattle.std.proofs.Common.{◌≡◌, ℕ, ◌+◌, ◌<◌, ◌≤◌, List, ◌++◌, length, get_or, drop, add-one, drop-cons, Option, Result, Ok, IsErr, refl}
 use Rattle.poet_io.specs.Sinks.{Appended, Wrote}
 use Rattle.poet_io.proofs.Writing.{wrote_less, wrote_more}
 use Rattle.task_sheet.specs.declared.tasks.Task.{Task}

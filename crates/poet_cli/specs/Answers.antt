@@ -21,11 +21,11 @@ use Rattle.poet_cli.specs.declared.refusal.Refusal.{Refusal}
 use Rattle.poet_cli.specs.declared.refusal.Refusal.TheVariants.{Usage, Read, Sheet, Text, Limit, Points, Jobs, Segments, Memory}
 use Rattle.poet_cli.specs.declared.judged.Judged.{Judged}
 use Rattle.poet_cli.specs.declared.judged.Judged.TheVariants as judged
-use Rattle.poet_cli.specs.declared.analysed.Analysed.{Analysed}
-use Rattle.poet_cli.specs.declared.analysed.Analysed.TheVariants as analysed
+use Rattle.poet_cli.specs.declared.printed.Printed.{Printed}
+use Rattle.poet_cli.specs.declared.printed.Printed.TheVariants as printed
 use Rattle.poet_cli.specs.Refusals.{limit_of}
-use Rattle.poet_cli.specs.Endings.{Ending}
-use Rattle.poet_cli.specs.Printing.{output_of, analysis_output}
+use Rattle.poet_cli.specs.Endings.{Ending, printed_output}
+use Rattle.poet_cli.specs.Printing.{output_of, no_bound_text}
 use Rattle.poet_cli.specs.Steps.{next}
 
 -- the bytes of a file, within the limit of its kind
@@ -68,9 +68,10 @@ check_answer sheet certificate deadlines files = next (sheet_in sheet files) (λ
 abbrev pub best_for : SheetParts → ℕ → Result Cert AnalyseRefusal
 best_for sheet horizon = best_of (meaning_of sheet.policy) per_task_meaning (sbf_of sheet.supply) sheet horizon
 
-abbrev pub analysed_by : SheetParts → Result Cert AnalyseRefusal → Result Analysed Refusal
-analysed_by sheet (Ok cert) = Ok (analysed.Best (text_of cert))
-analysed_by sheet (Err (solver.NoBound i)) = Ok (analysed.NoBound (task_at sheet i).name)
+-- what is printed of an analysis: the certificate's text, or which task has no bound
+abbrev pub analysed_by : SheetParts → Result Cert AnalyseRefusal → Result Printed Refusal
+analysed_by sheet (Ok cert) = Ok (printed.Done (text_of cert))
+analysed_by sheet (Err (solver.NoBound i)) = Ok (printed.JudgedNo (no_bound_text (task_at sheet i).name))
 analysed_by sheet (Err (solver.Points i)) = Err (Points (task_at sheet i).name)
 analysed_by sheet (Err solver.Memory) = Err Memory
 
@@ -87,11 +88,11 @@ IsAnalysisRefusal sheet horizon Segments = ⊥
 IsAnalysisRefusal sheet horizon Memory = Unit {0}
 
 -- the analysis of the sheet of a file
-abbrev pub analysis_in : List ℕ → ℕ → Files → Result Analysed Refusal
+abbrev pub analysis_in : List ℕ → ℕ → Files → Result Printed Refusal
 analysis_in sheet horizon files = next (sheet_in sheet files) (λ parts. analysed_by parts (best_for parts horizon))
 
 abbrev pub analyse_answer : List ℕ → ℕ → Files → Ending
-analyse_answer sheet horizon files = next (analysis_in sheet horizon files) (λ analysed. Ok (analysis_output analysed))
+analyse_answer sheet horizon files = next (analysis_in sheet horizon files) (λ print. Ok (printed_output print))
 
 -- which refusals may come whatever the shelf tells, of a command that reads a sheet and then another file
 abbrev pub MayFailAfterSheet : Source → List ℕ → Option Files → Refusal → Type 0

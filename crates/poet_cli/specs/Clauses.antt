@@ -1,4 +1,4 @@
-use Rattle.std.specs.Prelude.{◌≡◌, ◌≢◌, ◌≤◌, ◌⊎◌, ℕ, List, Option, Result, Ok, Err, IsOk}
+use Rattle.std.specs.Prelude.{◌≡◌, ◌≢◌, ◌≤◌, ◌⊎◌, ℕ, Bool, false, List, Option, Result, Ok, Err, IsOk}
 use Rattle.poet_io.specs.Faults.{Rose}
 use Rattle.poet_io.specs.Shelves.{Files, IfTold, IsTold}
 use Rattle.poet_io.specs.Sinks.{Appended, AppendedPart, Stayed, WroteLine}
@@ -57,15 +57,28 @@ pub record IsReadLine (answer : Files → Ending) (may : Refusal → Type 0) (be
   pub may_fail : may (Read source)
   pub no_fault : ¬ Rose before.faults after.faults → IfTold before.files (λ files. line ≡ err_text (answer files))
 
+-- the line of some refusal with this status
+pub record IsRefusalLine (status : ℕ) (line : List ℕ) : Type 0 where
+  pub refusal : Refusal
+  pub status_is : status ≡ refusal_status refusal
+  pub line_is : line ≡ line_of refusal
+
 -- which line was written to err for a status from 2 on, whole where the faults of err did not rise
 pub record SaysWhy (answer : Files → Ending) (may : Refusal → Type 0) (before after : Scene) (status : ℕ) : Type 0 where
   pub line : List ℕ
   pub one_line : WroteLine before.sinks.err after.sinks.err before.sinks.err_faults after.sinks.err_faults line
+  pub refusal_is : status ≢ 4 → IsRefusalLine status line
   pub usage_line : status ≡ 2 → line ≡ line_of Usage
   pub read_line : status ≡ 3 → IsReadLine answer may before after line
   pub write_line : status ≡ 4 → line ≡ write_failed
   pub refusal_line : 5 ≤ status → status ≤ 7 → IfTold before.files (λ files. line ≡ err_text (answer files))
   pub memory_line : status ≡ 8 → line ≡ line_of Memory
+
+-- what a call leaves of its shelf: its files, no fewer faults, and nothing open where one could not be read
+pub record LeavesShelf (files_before files_now : Option Files) (faults_before faults_now : ℕ) (is_open : Bool) (status : ℕ) : Type 0 where
+  pub files : files_now ≡ files_before
+  pub later : faults_before ≤ faults_now
+  pub closed : status ≡ 3 → is_open ≡ false
 
 -- what a call tells whose answer is this function of the files, and that may be refused so
 pub record Answers (answer : Files → Ending) (may : Refusal → Type 0) (before after : Scene) (status : ℕ) : Type 0 where

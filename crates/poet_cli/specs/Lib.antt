@@ -9,5 +9,7 @@ pub mod Answers
 pub mod RunAnswers
 pub mod ReportAnswers
 pub mod ExerciseAnswers
+pub mod Analyses
+pub mod Objections
 pub mod Program
 pub mod Headline

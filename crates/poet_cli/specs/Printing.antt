@@ -7,8 +7,6 @@ use Rattle.conditions.specs.declared.failed.Cond.TheVariants.{K1, K3, K4, K5, K6
 use Rattle.conditions.specs.declared.failed.Failed.{Failed}
 use Rattle.poet_cli.specs.declared.judged.Judged.{Judged}
 use Rattle.poet_cli.specs.declared.judged.Judged.TheVariants.{Accepted, Refused}
-use Rattle.poet_cli.specs.declared.analysed.Analysed.{Analysed}
-use Rattle.poet_cli.specs.declared.analysed.Analysed.TheVariants.{Best, NoBound}
 use Rattle.poet_cli.specs.Endings.{Output, Done, JudgedNo}
 
 -- whether a deadline is met
@@ -61,7 +59,6 @@ abbrev pub output_of : SheetParts → Judged → Output
 output_of sheet (Accepted bounds) = Done (accepted_text sheet bounds)
 output_of sheet (Refused failed) = JudgedNo (refused_text sheet failed)
 
--- what is printed of an analysis: the certificate's text, or no bound task NAME window
-abbrev pub analysis_output : Analysed → Output
-analysis_output (Best text) = Done text
-analysis_output (NoBound name) = JudgedNo (codes "no bound task " ++ (name ++ codes " window\n"))
+-- no bound task NAME window
+abbrev pub no_bound_text : List ℕ → List ℕ
+no_bound_text name = codes "no bound task " ++ (name ++ codes " window\n")

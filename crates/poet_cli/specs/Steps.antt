@@ -1,4 +1,4 @@
-use Rattle.std.specs.Prelude.{◌≡◌, ◌⊎◌, ℕ, Option, Result, Ok, Err}
+use Rattle.std.specs.Prelude.{◌≡◌, ◌⊎◌, ℕ, Bool, false, Option, Result, Ok, Err}
 use Rattle.poet_io.specs.Faults.{Rose}
 use Rattle.poet_io.specs.Shelves.{Files, IfTold, IsTold}
 use Rattle.poet_cli.specs.declared.refusal.Source.{Source}
@@ -26,6 +26,18 @@ Denied answer told before now Memory = Unit {0}
 abbrev pub Got : {A : Type 0} → (Files → Result A Refusal) → (Refusal → Type 0) → Option Files → ℕ → ℕ → Result A Refusal → Type 0
 Got answer may told before now (Ok a) = IfTold told (λ files. answer files ≡ Ok a)
 Got answer may told before now (Err e) = may e × Denied answer told before now e
+
+-- after a file that could not be read nothing is open
+abbrev pub IsShut : Bool → Refusal → Type 0
+IsShut is_open Usage = Unit {0}
+IsShut is_open (Read which) = is_open ≡ false
+IsShut is_open (Sheet refusal) = Unit {0}
+IsShut is_open (Text which line) = Unit {0}
+IsShut is_open (Limit which) = Unit {0}
+IsShut is_open (Points name) = Unit {0}
+IsShut is_open Jobs = Unit {0}
+IsShut is_open Segments = Unit {0}
+IsShut is_open Memory = Unit {0}
 
 -- the refusals of reading one file
 abbrev pub IsAt : Source → Refusal → Type 0

@@ -1,5 +1,5 @@
-use Rattle.std.specs.Prelude.{◌≡◌, ◌≤◌, ◌&&◌, List, [], ◌∷◌, ℕ, Bool, true, false, Option, Some, None, codes, decimal, bytes_eq, nat_le, if◌then◌else◌}
-use Rattle.std.specs.Str.Parse.{digits_value}
+use Rattle.std.specs.Prelude.{◌≡◌, ◌≤◌, ◌&&◌, List, [], ◌∷◌, ℕ, Bool, true, false, Option, Some, None, codes, bytes_eq, if◌then◌else◌}
+use Rattle.poet_io.specs.Decimals.{number_in}
 use Rattle.simulated_run.specs.declared.mode.Mode.{Mode}
 use Rattle.simulated_run.specs.declared.mode.Mode.TheVariants.{Dense, Seed}
 use Rattle.poet_cli.specs.declared.grammar.Form.{Form}
@@ -15,14 +15,6 @@ pub data Asked : Type 0 where
   AuditOf : List ℕ → List ℕ → Asked
   ReportOf : List ℕ → List ℕ → Form → Asked
   ExerciseOf : ℕ → ℕ → Asked
-
--- n, where the word is its canonical decimal and it is in low..high
-abbrev pub number_if : ℕ → ℕ → List ℕ → ℕ → Option ℕ
-number_if low high word n = if bytes_eq word (decimal n) && (nat_le low n && nat_le n high) then Some n else None
-
--- the number in low..high that a word writes
-unfoldable pub number_in : ℕ → ℕ → List ℕ → Option ℕ
-number_in low high word = number_if low high word (digits_value 10 word)
 
 -- a horizon, a number of ticks, a number of tasks, and a seed
 abbrev pub horizon_in : List ℕ → Option ℕ

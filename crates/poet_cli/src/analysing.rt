@@ -1,37 +1,57 @@
 //! The analysis of a sheet, up to its printing.
-ghost use Rattle.std.specs.Prelude.{◌≡◌, ◌≤◌, Ok, IfOk, IfErr};
+ghost use Rattle.std.specs.Prelude.{◌≡◌, ◌≤◌, true, Ok, IfOk, IfErr};
+ghost use Rattle.poet_io.specs.Shelves.{IfTold};
+ghost use Rattle.policy.specs.PolicyMeaning.{PolicyMeaning};
 ghost use Rattle.policy.specs.Policies.{meaning_of};
 ghost use Rattle.preemption.specs.Kinds.{per_task_meaning};
 ghost use Rattle.supply.specs.Promises.{sbf_of};
 ghost use Rattle.task_sheet.specs.Sheets.{task_at};
 ghost use Rattle.solver.specs.Outcome.{IsBestAnswer};
-ghost use Rattle.poet_cli.specs.Steps.{Got, IsAt};
+ghost use Rattle.poet_cli.specs.Printing.{no_bound_text};
+ghost use Rattle.poet_cli.specs.Steps.{Got, IsAt, IsShut};
 ghost use Rattle.poet_cli.specs.Answers.{best_for, analysed_by, analysis_in, IsAnalysisRefusal};
-ghost use Rattle.poet_cli.specs.Headline.{IsAccepted, IsSoundAnalysis, IsSoundAnalysisOf};
+ghost use Rattle.poet_cli.specs.Analyses.{IsBestBy, IsNoneBy, IsSoundAnalysis, IsSoundAnalysisOf};
 
-use crate::analysed::Analysed;
+use crate::printed::Printed;
 use crate::printing::name_at;
 use crate::reading::sheet_at;
 use crate::refusal::{Refusal, Source};
+use cert_check::accepted_is_sound;
 use certificate::{Cert, write_cert};
 use lists::{Items, Text};
 use poet_io::Shelf;
-use policy::{Edf, Fifo, Fp};
+use policy::{Edf, Fifo, Fp, Policy};
 use preemption::PerTask;
 use solver::{AnalyseRefusal, analyse};
 use std::alloc::{AllocError, Global};
+use supply::Supply;
 use task_sheet::{PolicyKind, Sheet};
+
+/// The best certificate by a policy, and the sheet's own preemption and supply.
+fn best_by<P: Policy>(alloc: Global, sheet: &Sheet, horizon: u64) -> Result<Cert, AnalyseRefusal>
+    requires { horizon ≤ 1000000000 }
+    ensures exact { IsBestAnswer P.meaning per_task_meaning (sbf_of sheet.now.supply) sheet.now horizon result }
+    ensures best { IfOk result (IsBestBy P.meaning sheet.now horizon) }
+    ensures none { IfErr result (IsNoneBy P.meaning sheet.now horizon) }
+{
+    // what the clauses rest on
+    let _valid = sheet.len();
+    sheet.known();
+    accepted_is_sound::<P, PerTask, Sheet>();
+    analyse::<P, PerTask, Sheet>(alloc, sheet, sheet, horizon)
+}
 
 /// The best certificate by the sheet's own policy, preemption and supply.
 fn best(alloc: Global, sheet: &Sheet, horizon: u64) -> Result<Cert, AnalyseRefusal>
     requires { horizon ≤ 1000000000 }
     ensures exact { IsBestAnswer (meaning_of sheet.now.policy) per_task_meaning (sbf_of sheet.now.supply) sheet.now horizon result }
-    ensures accepted { IfOk result (IsAccepted sheet.now) }
+    ensures best { IfOk result (IsBestBy (meaning_of sheet.now.policy) sheet.now horizon) }
+    ensures none { IfErr result (IsNoneBy (meaning_of sheet.now.policy) sheet.now horizon) }
 {
     match sheet.policy() {
-        PolicyKind::Fp => analyse::<Fp, PerTask, Sheet>(alloc, sheet, sheet, horizon),
-        PolicyKind::Edf => analyse::<Edf, PerTask, Sheet>(alloc, sheet, sheet, horizon),
-        PolicyKind::Fifo => analyse::<Fifo, PerTask, Sheet>(alloc, sheet, sheet, horizon),
+        PolicyKind::Fp => best_by::<Fp>(alloc, sheet, horizon),
+        PolicyKind::Edf => best_by::<Edf>(alloc, sheet, horizon),
+        PolicyKind::Fifo => best_by::<Fifo>(alloc, sheet, horizon),
     }
 }
 
@@ -42,20 +62,30 @@ fn name_of(alloc: Global, sheet: &Sheet, task: u32) -> Result<Text, AllocError>
     Ok(Text::new(String::from_str(alloc, name_at(sheet, task))?))
 }
 
+/// That a task has no bound.
+fn no_bound(alloc: Global, sheet: &Sheet, task: u32) -> Result<Items<u8>, AllocError>
+    ensures { IfOk result (λ text. text ≡ no_bound_text (task_at sheet.now task).name) }
+{
+    let mut text = Vec::from_slice(alloc, "no bound task ".as_bytes())?;
+    text.extend_from_slice(name_at(sheet, task).as_bytes())?;
+    text.extend_from_slice(" window\n".as_bytes())?;
+    Ok(Items::new(text))
+}
+
 /// What the analysis of a sheet comes to.
-fn analysis(alloc: Global, sheet: &Sheet, horizon: u64) -> Result<Analysed, Refusal>
+fn analysis(alloc: Global, sheet: &Sheet, horizon: u64) -> Result<Printed, Refusal>
     requires { horizon ≤ 1000000000 }
-    ensures done { IfOk result (λ analysed. analysed_by sheet.now (best_for sheet.now horizon) ≡ Ok analysed) }
+    ensures done { IfOk result (λ print. analysed_by sheet.now (best_for sheet.now horizon) ≡ Ok print) }
     ensures refused { IfErr result (IsAnalysisRefusal sheet.now horizon) }
     ensures sound { IfOk result (IsSoundAnalysis sheet.now horizon) }
 {
     match best(alloc, sheet, horizon) {
         Ok(cert) => match write_cert(alloc, &cert) {
-            Ok(text) => Ok(Analysed::Best(Items::new(text))),
+            Ok(text) => Ok(Printed::Done(Items::new(text))),
             Err(_) => Err(Refusal::Memory),
         },
-        Err(AnalyseRefusal::NoBound { task }) => match name_of(alloc, sheet, task) {
-            Ok(name) => Ok(Analysed::NoBound(name)),
+        Err(AnalyseRefusal::NoBound { task }) => match no_bound(alloc, sheet, task) {
+            Ok(text) => Ok(Printed::JudgedNo(text)),
             Err(_) => Err(Refusal::Memory),
         },
         Err(AnalyseRefusal::Points { task }) => match name_of(alloc, sheet, task) {
@@ -72,10 +102,11 @@ pub fn analysis_at<H: Shelf>(
     shelf: &mut H,
     name: &str,
     horizon: u64,
-) -> Result<Analysed, Refusal>
+) -> Result<Printed, Refusal>
     requires { horizon ≤ 1000000000 }
     ensures files { H.files shelf.new ≡ H.files shelf.old }
     ensures later { H.faults shelf.old ≤ H.faults shelf.new }
+    ensures closed { IfErr result (IsShut (H.is_open shelf.new)) }
     ensures got { Got (analysis_in name.now horizon) (IsAt Source.Sheet) (H.files shelf.old) (H.faults shelf.old) (H.faults shelf.new) result }
     ensures sound { IfOk result (IsSoundAnalysisOf name.now horizon (H.files shelf.old)) }
 {

@@ -1,12 +1,12 @@
 //! The verdict on a run, up to its printing.
-ghost use Rattle.std.specs.Prelude.{◌≡◌, ◌≤◌, Ok, IfOk};
+ghost use Rattle.std.specs.Prelude.{◌≡◌, ◌≤◌, Ok, IfOk, IfErr};
 ghost use Rattle.poet_io.specs.Shelves.{IfTold};
 ghost use Rattle.policy.specs.Policies.{meaning_of};
 ghost use Rattle.preemption.specs.Kinds.{per_task_meaning};
 ghost use Rattle.supply.specs.Promises.{sbf_of};
 ghost use Rattle.run_text.specs.Text.{IsWithinLimits};
 ghost use Rattle.audit.specs.Verdicts.{TellsCompliance};
-ghost use Rattle.poet_cli.specs.Steps.{Got, IsAt};
+ghost use Rattle.poet_cli.specs.Steps.{Got, IsAt, IsShut};
 ghost use Rattle.poet_cli.specs.RunPrinting.{audit_print, IsPrintableVerdict};
 ghost use Rattle.poet_cli.specs.RunAnswers.{audit_for, audit_in};
 ghost use Rattle.poet_cli.specs.Headline.{IsSoundAudit, IsSoundAuditOf};
@@ -56,6 +56,7 @@ pub fn audit_at<H: Shelf>(
 ) -> Result<Printed, Refusal>
     ensures files { H.files shelf.new ≡ H.files shelf.old }
     ensures later { H.faults shelf.old ≤ H.faults shelf.new }
+    ensures closed { IfErr result (IsShut (H.is_open shelf.new)) }
     ensures got { Got (audit_in sheet.now name.now) (IsAt Source.Run) (H.files shelf.old) (H.faults shelf.old) (H.faults shelf.new) result }
     ensures sound { IfOk result (IsSoundAuditOf sheet.now name.now (H.files shelf.old)) }
 {

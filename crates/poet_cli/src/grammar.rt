@@ -1,8 +1,8 @@
 //! The word grammar.
-ghost use Rattle.std.specs.Prelude.{◌≡◌, ◌≤◌, ◌<◌, ◌^◌, [], ◌∷◌, map, string_bytes, IfSome};
-ghost use Rattle.poet_cli.specs.Words.{AnalyseOf, SimulateOf, ReportOf, number_in, horizon_in, ticks_in, tasks_in, seed_in, form_in, given, check_in, exercise_in, seeded_in, two_words, three_words, four_words, IsAsked, IsCommand, IsInRange};
+ghost use Rattle.std.specs.Prelude.{◌≡◌, [], ◌∷◌, map, string_bytes, IfSome};
+ghost use Rattle.poet_cli.specs.Words.{AnalyseOf, SimulateOf, ReportOf, horizon_in, ticks_in, tasks_in, seed_in, form_in, given, check_in, exercise_in, seeded_in, two_words, three_words, four_words, IsAsked, IsCommand, IsInRange};
 
-use poet_io::read_number;
+use poet_io::read_number_in;
 use simulated_run::Mode;
 
 /// The form of a report.
@@ -50,16 +50,6 @@ pub enum Command<'a> {
     },
 }
 
-/// The number in `low..=high` that a word writes.
-fn number_of(word: &str, low: u64, high: u64) -> Option<u64>
-    ensures defined { result ≡ number_in low high word.now }
-    ensures few { IfSome result (λ n. n ≤ high) }
-    ensures some { IfSome result (λ n. low ≤ n) }
-{
-    let n = read_number(word.as_bytes())?;
-    if low <= n && n <= high { Some(n) } else { None }
-}
-
 /// The form that a word names.
 fn form_of(word: &str) -> Option<Form>
     ensures { result ≡ form_in word.now }
@@ -93,7 +83,7 @@ fn analyse_of<'a>(sheet: &'a str, horizon: &str) -> Option<Command<'a>>
     ensures defined { IsAsked (given (horizon_in horizon.now) (AnalyseOf sheet.now)) result }
     ensures in_range { IfSome result IsInRange }
 {
-    let horizon = number_of(horizon, 1, 1_000_000_000)?;
+    let horizon = read_number_in(horizon.as_bytes(), 1, 1_000_000_000)?;
     Some(Command::Analyse { sheet, horizon })
 }
 
@@ -101,8 +91,8 @@ fn exercise_of<'a>(seed: &str, tasks: &str) -> Option<Command<'a>>
     ensures defined { IsAsked (exercise_in (seed_in seed.now) (tasks_in tasks.now)) result }
     ensures in_range { IfSome result IsInRange }
 {
-    let seed = number_of(seed, 0, u64::MAX)?;
-    let tasks = number_of(tasks, 1, 64)? as u32;
+    let seed = read_number_in(seed.as_bytes(), 0, u64::MAX)?;
+    let tasks = read_number_in(tasks.as_bytes(), 1, 64)? as u32;
     Some(Command::Exercise { seed, tasks })
 }
 
@@ -110,7 +100,7 @@ fn dense_of<'a>(sheet: &'a str, ticks: &str) -> Option<Command<'a>>
     ensures defined { IsAsked (given (ticks_in ticks.now) (SimulateOf sheet.now Mode.Dense)) result }
     ensures in_range { IfSome result IsInRange }
 {
-    let ticks = number_of(ticks, 1, 100_000)?;
+    let ticks = read_number_in(ticks.as_bytes(), 1, 100_000)?;
     let mode = Mode::Dense;
     Some(Command::Simulate { sheet, mode, ticks })
 }
@@ -119,8 +109,8 @@ fn seeded_of<'a>(sheet: &'a str, seed: &str, ticks: &str) -> Option<Command<'a>>
     ensures defined { IsAsked (seeded_in sheet.now (seed_in seed.now) (ticks_in ticks.now)) result }
     ensures in_range { IfSome result IsInRange }
 {
-    let seed = number_of(seed, 0, u64::MAX)?;
-    let ticks = number_of(ticks, 1, 100_000)?;
+    let seed = read_number_in(seed.as_bytes(), 0, u64::MAX)?;
+    let ticks = read_number_in(ticks.as_bytes(), 1, 100_000)?;
     let mode = Mode::Seed(seed);
     Some(Command::Simulate { sheet, mode, ticks })
 }

@@ -1,11 +1,11 @@
 //! The judgement of a certificate, up to its printing.
-ghost use Rattle.std.specs.Prelude.{◌≡◌, ◌≤◌, Ok, IfOk};
+ghost use Rattle.std.specs.Prelude.{◌≡◌, ◌≤◌, Ok, IfOk, IfErr};
 ghost use Rattle.poet_io.specs.Shelves.{IfTold};
 ghost use Rattle.cert_check.specs.Verdicts.{IsVerdict, IsBoundedBy};
 ghost use Rattle.policy.specs.Policies.{meaning_of};
 ghost use Rattle.preemption.specs.Kinds.{per_task_meaning};
 ghost use Rattle.supply.specs.Promises.{sbf_of};
-ghost use Rattle.poet_cli.specs.Steps.{Got, IsAt};
+ghost use Rattle.poet_cli.specs.Steps.{Got, IsAt, IsShut};
 ghost use Rattle.poet_cli.specs.Answers.{sheet_verdict, judged_in};
 ghost use Rattle.poet_cli.specs.Headline.{IsSoundJudgement};
 
@@ -29,7 +29,7 @@ fn verdict(
 ) -> Result<Verdict, AllocError>
     ensures defined { IfOk result (λ v. v ≡ sheet_verdict sheet.now deadlines bytes.now) }
     ensures judged { IfOk result (IsVerdict (meaning_of sheet.now.policy) per_task_meaning (sbf_of sheet.now.supply) sheet.now deadlines bytes.now) }
-    ensures bounded { IfOk result (IsBoundedBy (meaning_of sheet.now.policy) per_task_meaning (sbf_of sheet.now.supply) sheet.now) }
+    ensures bounded { IfOk result (IsBoundedBy (meaning_of sheet.now.policy) per_task_meaning (sbf_of sheet.now.supply) sheet.now deadlines) }
 {
     match sheet.policy() {
         PolicyKind::Fp => check_cert::<Fp, PerTask, Sheet>(alloc, sheet, sheet, deadlines, bytes),
@@ -50,8 +50,9 @@ pub fn judged_at<H: Shelf>(
 ) -> Result<Judged, Refusal>
     ensures files { H.files shelf.new ≡ H.files shelf.old }
     ensures later { H.faults shelf.old ≤ H.faults shelf.new }
+    ensures closed { IfErr result (IsShut (H.is_open shelf.new)) }
     ensures got { Got (judged_in sheet.now deadlines name.now) (IsAt Source.Certificate) (H.files shelf.old) (H.faults shelf.old) (H.faults shelf.new) result }
-    ensures sound { IfOk result (IsSoundJudgement sheet.now name.now (H.files shelf.old)) }
+    ensures sound { IfOk result (IsSoundJudgement sheet.now deadlines name.now (H.files shelf.old)) }
 {
     let bytes = read_file(alloc, shelf, name, Source::Certificate)?;
     match verdict(alloc, sheet, deadlines, &bytes) {

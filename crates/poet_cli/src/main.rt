@@ -1,7 +1,6 @@
 //! `poet`: judges bounds on the response times of real-time tasks.
 #![tactic(auto)]
 
-mod analysed;
 mod analysing;
 mod auditing;
 mod exercising;

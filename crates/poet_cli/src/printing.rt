@@ -4,7 +4,7 @@ ghost use Rattle.poet_io.specs.Sinks.{Wrote};
 ghost use Rattle.task_sheet.specs.Sheets.{task_at};
 ghost use Rattle.poet_cli.specs.Printing.{bound_front, bound_back, bound_line, bounds_text, accepted_text, cond_text as cond_text_of, task_text, point_text, refused_text};
 
-use crate::telling::{write_four, write_six, write_three};
+use crate::telling::{write_four, write_six};
 use conditions::{Cond, Failed};
 use poet_io::{Sink, SinkFault, put_number, write_all};
 use task_sheet::{Sheet, Task};
@@ -135,11 +135,4 @@ pub fn write_refused<O: Sink>(sheet: &Sheet, failed: &Failed, out: &mut O) -> Re
         &digits[..len],
         "\n".as_bytes(),
     )
-}
-
-/// That a task has no bound.
-pub fn write_no_bound<O: Sink>(name: &str, out: &mut O) -> Result<(), SinkFault>
-    ensures { Wrote (O.written out.old) (O.written out.new) (O.faults out.old) (O.faults out.new) (codes "no bound task " ++ (name.now ++ codes " window\n")) result }
-{
-    write_three(out, "no bound task ", name, " window\n")
 }

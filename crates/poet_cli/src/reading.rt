@@ -1,7 +1,7 @@
 //! The files of a command.
 ghost use Rattle.std.specs.Prelude.{◌≡◌, ◌≤◌, ◌-◌, ◌<◌, ◌^◌, ℕ, Ok, IfOk, IfErr};
 ghost use Rattle.poet_io.specs.Shelves.{IfTold};
-ghost use Rattle.poet_cli.specs.Steps.{Denied, Got, IsAt};
+ghost use Rattle.poet_cli.specs.Steps.{Denied, Got, IsAt, IsShut};
 ghost use Rattle.poet_cli.specs.Answers.{file_in, sheet_in};
 
 use crate::refusal::{Refusal, Source};
@@ -19,6 +19,7 @@ pub fn read_file<H: Shelf>(
 ) -> Result<Vec<u8>, Refusal>
     ensures files { H.files shelf.new ≡ H.files shelf.old }
     ensures later { H.faults shelf.old ≤ H.faults shelf.new }
+    ensures closed { IfErr result (IsShut (H.is_open shelf.new)) }
     ensures whole { IfOk result (λ bytes. IfTold (H.files shelf.old) (λ files. file_in source name.now files ≡ Ok bytes.items)) }
     ensures denied { IfErr result (λ e. IsAt source e × Denied (file_in source name.now) (H.files shelf.old) (H.faults shelf.old) (H.faults shelf.new) e) }
 {
@@ -34,6 +35,7 @@ pub fn read_file<H: Shelf>(
 pub fn sheet_at<H: Shelf>(alloc: Global, shelf: &mut H, name: &str) -> Result<Sheet, Refusal>
     ensures files { H.files shelf.new ≡ H.files shelf.old }
     ensures later { H.faults shelf.old ≤ H.faults shelf.new }
+    ensures closed { IfErr result (IsShut (H.is_open shelf.new)) }
     ensures got { Got (sheet_in name.now) (IsAt Source.Sheet) (H.files shelf.old) (H.faults shelf.old) (H.faults shelf.new) result }
 {
     let bytes = read_file(alloc, shelf, name, Source::Sheet)?;

@@ -1,11 +1,11 @@
 //! The report on a certificate, up to its printing.
-ghost use Rattle.std.specs.Prelude.{◌≡◌, ◌≤◌, Ok, None, IfOk};
+ghost use Rattle.std.specs.Prelude.{◌≡◌, ◌≤◌, false, Ok, None, IfOk, IfErr};
 ghost use Rattle.certificate.specs.Text.{IsWithinGrammar};
 ghost use Rattle.policy.specs.Policies.{meaning_of};
 ghost use Rattle.preemption.specs.Kinds.{per_task_meaning};
 ghost use Rattle.supply.specs.Promises.{sbf_of};
 ghost use Rattle.cert_check.specs.Verdicts.{bounds_of, AreSound};
-ghost use Rattle.poet_cli.specs.Steps.{Got, IsAt};
+ghost use Rattle.poet_cli.specs.Steps.{Got, IsAt, IsShut};
 ghost use Rattle.poet_cli.specs.ReportAnswers.{failed_for, reported_by, report_in};
 ghost use Rattle.poet_cli.specs.Headline.{IsSoundReport, IsSoundReportOf};
 
@@ -29,7 +29,7 @@ use task_sheet::{PolicyKind, Sheet};
 fn first_failed(sheet: &Sheet, cert: &Cert) -> Option<Failed>
     requires { IsWithinGrammar cert.now }
     ensures defined { result ≡ failed_for sheet.now cert.now }
-    ensures bounded { result ≡ None → AreSound (meaning_of sheet.now.policy) per_task_meaning (sbf_of sheet.now.supply) sheet.now (bounds_of cert.now) }
+    ensures bounded { result ≡ None → AreSound (meaning_of sheet.now.policy) per_task_meaning (sbf_of sheet.now.supply) sheet.now false (bounds_of cert.now) }
 {
     match sheet.policy() {
         PolicyKind::Fp => judge_cert::<Fp, PerTask, Sheet>(sheet, sheet, cert, false),
@@ -64,6 +64,7 @@ pub fn report_at<H: Shelf>(
 ) -> Result<Reported, Refusal>
     ensures files { H.files shelf.new ≡ H.files shelf.old }
     ensures later { H.faults shelf.old ≤ H.faults shelf.new }
+    ensures closed { IfErr result (IsShut (H.is_open shelf.new)) }
     ensures got { Got (report_in sheet.now form name.now) (IsAt Source.Certificate) (H.files shelf.old) (H.faults shelf.old) (H.faults shelf.new) result }
     ensures sound { IfOk result (IsSoundReportOf sheet.now name.now (H.files shelf.old)) }
 {

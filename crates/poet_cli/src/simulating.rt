@@ -6,8 +6,10 @@ ghost use Rattle.preemption.specs.Kinds.{per_task_meaning};
 ghost use Rattle.supply.specs.Promises.{sbf_of};
 ghost use Rattle.run_text.specs.Text.{IsWithinLimits};
 ghost use Rattle.schedule_laws.specs.Compliance.{IsCompliant};
+ghost use Rattle.simulated_run.specs.declared.mode.Mode.TheVariants.{Dense};
+ghost use Rattle.simulated_run.specs.Laws.{IsDense};
 ghost use Rattle.simulator.specs.Simulations.{IsSimulation, simulation_of};
-ghost use Rattle.poet_cli.specs.Steps.{Got, IsAt};
+ghost use Rattle.poet_cli.specs.Steps.{Got, IsAt, IsShut};
 ghost use Rattle.poet_cli.specs.RunAnswers.{world_for, simulated_by, simulation_in, IsSimulationRefusal};
 ghost use Rattle.poet_cli.specs.Headline.{SimulationComplies, SimulationHolds};
 
@@ -30,6 +32,7 @@ pub fn simulation(alloc: Global, sheet: &Sheet, mode: Mode, ticks: u64) -> Resul
     requires { ticks ≤ 100000 }
     ensures exact { IsSimulation (world_for sheet.now mode) ticks result }
     ensures complies { IfOk result (IsCompliant (meaning_of sheet.now.policy) per_task_meaning (sbf_of sheet.now.supply) sheet.now) }
+    ensures full { mode ≡ Dense → IfOk result (IsDense sheet.now ticks) }
     ensures within { IfOk result IsWithinLimits }
 {
     match sheet.policy() {
@@ -68,6 +71,7 @@ pub fn simulation_at<H: Shelf>(
     requires { ticks ≤ 100000 }
     ensures files { H.files shelf.new ≡ H.files shelf.old }
     ensures later { H.faults shelf.old ≤ H.faults shelf.new }
+    ensures closed { IfErr result (IsShut (H.is_open shelf.new)) }
     ensures got { Got (simulation_in name.now mode ticks) (IsAt Source.Sheet) (H.files shelf.old) (H.faults shelf.old) (H.faults shelf.new) result }
     ensures sound { IfOk result (λ print. IfTold (H.files shelf.old) (SimulationHolds name.now mode ticks)) }
 {

@@ -1,5 +1,5 @@
 //! The top call.
-ghost use Rattle.std.specs.Prelude.{◌≡◌, ◌≢◌, ◌↔◌, ◌≤◌, Ok, None, map, string_bytes};
+ghost use Rattle.std.specs.Prelude.{◌≡◌, ◌≢◌, ◌↔◌, ◌≤◌, false, Ok, None, map, string_bytes};
 ghost use Rattle.poet_io.specs.Shelves.{IfTold};
 ghost use Rattle.exercise.specs.Exercises.{ExerciseHolds};
 ghost use Rattle.poet_cli.specs.Words.{command_in};
@@ -10,11 +10,12 @@ ghost use Rattle.poet_cli.specs.ReportAnswers.{reported_output, report_rest, rep
 ghost use Rattle.poet_cli.specs.ExerciseAnswers.{exercise_answer, IsExerciseRefusal};
 ghost use Rattle.poet_cli.specs.Program.{answer_of, MayFail};
 ghost use Rattle.poet_cli.specs.Endings.{printed_output};
-ghost use Rattle.poet_cli.specs.Clauses.{Answers, Told};
-ghost use Rattle.poet_cli.specs.Printing.{output_of, analysis_output};
-ghost use Rattle.poet_cli.specs.Headline.{Headline, HeadlineHolds, BoundsHold, AnalysisHolds, SimulationHolds, RunHolds, AuditHolds, IsPrintable};
+ghost use Rattle.poet_cli.specs.Clauses.{Answers, LeavesShelf, Told};
+ghost use Rattle.poet_cli.specs.Printing.{output_of};
+ghost use Rattle.poet_cli.specs.Analyses.{AnalysisHolds, NothingMeets};
+ghost use Rattle.poet_cli.specs.Objections.{Objection, CertificateFails, CheckFails, RunFails, AuditFails};
+ghost use Rattle.poet_cli.specs.Headline.{Headline, HeadlineHolds, BoundsHold, SimulationHolds, RunHolds, AuditHolds, IsPrintable};
 
-use crate::analysed::Analysed;
 use crate::analysing::analysis_at;
 use crate::auditing::audit_at;
 use crate::exercising::exercise_print;
@@ -22,7 +23,7 @@ use crate::grammar::{Command, Form, command_of};
 use crate::judged::Judged;
 use crate::judging::judged_at;
 use crate::printed::Printed;
-use crate::printing::{write_accepted, write_no_bound, write_refused};
+use crate::printing::{write_accepted, write_refused};
 use crate::reading::sheet_at;
 use crate::refusal::{Refusal, Source};
 use crate::reported::Reported;
@@ -60,7 +61,9 @@ fn judge<H: Shelf, O: Sink, E: Sink>(
     ensures answers { Answers (rest_of sheet.now deadlines name.now) (IsAt Source.Certificate)
         (record { files = H.files shelf.old; faults = H.faults shelf.old; sinks = record { out = O.written out.old; out_faults = O.faults out.old; err = E.written err.old; err_faults = E.faults err.old } })
         (record { files = H.files shelf.new; faults = H.faults shelf.new; sinks = record { out = O.written out.new; out_faults = O.faults out.new; err = E.written err.new; err_faults = E.faults err.new } }) result }
-    ensures headline { result ≡ 0 → IfTold (H.files shelf.old) (BoundsHold sheet.now name.now) }
+    ensures headline { result ≡ 0 → IfTold (H.files shelf.old) (BoundsHold sheet.now deadlines name.now) }
+    ensures objection { result ≡ 1 → IfTold (H.files shelf.old) (CertificateFails sheet.now deadlines name.now) }
+    ensures shelf { LeavesShelf (H.files shelf.old) (H.files shelf.new) (H.faults shelf.old) (H.faults shelf.new) (H.is_open shelf.new) result }
     ensures seldom { result ≢ 2 }
 {
     match judged_at(alloc, shelf, sheet, name, deadlines) {
@@ -82,7 +85,9 @@ fn run_check<H: Shelf, O: Sink, E: Sink>(
     ensures answers { Answers (check_answer sheet.now certificate.now deadlines) (MayFailAfterSheet Source.Certificate sheet.now (H.files shelf.old))
         (record { files = H.files shelf.old; faults = H.faults shelf.old; sinks = record { out = O.written out.old; out_faults = O.faults out.old; err = E.written err.old; err_faults = E.faults err.old } })
         (record { files = H.files shelf.new; faults = H.faults shelf.new; sinks = record { out = O.written out.new; out_faults = O.faults out.new; err = E.written err.new; err_faults = E.faults err.new } }) result }
-    ensures headline { result ≡ 0 → IfTold (H.files shelf.old) (HeadlineHolds sheet.now certificate.now) }
+    ensures headline { result ≡ 0 → IfTold (H.files shelf.old) (HeadlineHolds sheet.now certificate.now deadlines) }
+    ensures objection { result ≡ 1 → IfTold (H.files shelf.old) (CheckFails sheet.now certificate.now deadlines) }
+    ensures shelf { LeavesShelf (H.files shelf.old) (H.files shelf.new) (H.faults shelf.old) (H.faults shelf.new) (H.is_open shelf.new) result }
     ensures seldom { result ≢ 2 }
 {
     match sheet_at(alloc, shelf, sheet) {
@@ -91,15 +96,15 @@ fn run_check<H: Shelf, O: Sink, E: Sink>(
     }
 }
 
-/// Prints an analysis, and answers the status.
-fn tell_analysed<O: Sink, E: Sink>(analysed: &Analysed, out: &mut O, err: &mut E) -> u8
-    ensures told { Told (Ok (analysis_output analysed.now))
+/// Prints a text that was made in memory, and answers the status.
+fn tell_printed<O: Sink, E: Sink>(print: &Printed, out: &mut O, err: &mut E) -> u8
+    ensures told { Told (Ok (printed_output print.now))
         (record { out = O.written out.old; out_faults = O.faults out.old; err = E.written err.old; err_faults = E.faults err.old })
         (record { out = O.written out.new; out_faults = O.faults out.new; err = E.written err.new; err_faults = E.faults err.new }) result }
 {
-    match analysed {
-        Analysed::Best(text) => finish(write_all(out, text.as_slice()), 0, err),
-        Analysed::NoBound(name) => finish(write_no_bound(name.as_str(), out), 1, err),
+    match print {
+        Printed::Done(text) => finish(write_all(out, text.as_slice()), 0, err),
+        Printed::JudgedNo(text) => finish(write_all(out, text.as_slice()), 1, err),
     }
 }
 
@@ -117,23 +122,13 @@ fn run_analyse<H: Shelf, O: Sink, E: Sink>(
         (record { files = H.files shelf.old; faults = H.faults shelf.old; sinks = record { out = O.written out.old; out_faults = O.faults out.old; err = E.written err.old; err_faults = E.faults err.old } })
         (record { files = H.files shelf.new; faults = H.faults shelf.new; sinks = record { out = O.written out.new; out_faults = O.faults out.new; err = E.written err.new; err_faults = E.faults err.new } }) result }
     ensures headline { result ≡ 0 → IfTold (H.files shelf.old) (AnalysisHolds sheet.now horizon) }
+    ensures objection { result ≡ 1 → IfTold (H.files shelf.old) (NothingMeets sheet.now horizon) }
+    ensures shelf { LeavesShelf (H.files shelf.old) (H.files shelf.new) (H.faults shelf.old) (H.faults shelf.new) (H.is_open shelf.new) result }
     ensures seldom { result ≢ 2 }
 {
     match analysis_at(alloc, shelf, sheet, horizon) {
-        Ok(analysed) => tell_analysed(&analysed, out, err),
+        Ok(print) => tell_printed(&print, out, err),
         Err(refusal) => tell_refusal(&refusal, err),
-    }
-}
-
-/// Prints a text that was made in memory, and answers the status.
-fn tell_printed<O: Sink, E: Sink>(print: &Printed, out: &mut O, err: &mut E) -> u8
-    ensures told { Told (Ok (printed_output print.now))
-        (record { out = O.written out.old; out_faults = O.faults out.old; err = E.written err.old; err_faults = E.faults err.old })
-        (record { out = O.written out.new; out_faults = O.faults out.new; err = E.written err.new; err_faults = E.faults err.new }) result }
-{
-    match print {
-        Printed::Done(text) => finish(write_all(out, text.as_slice()), 0, err),
-        Printed::JudgedNo(text) => finish(write_all(out, text.as_slice()), 1, err),
     }
 }
 
@@ -152,6 +147,8 @@ fn run_simulate<H: Shelf, O: Sink, E: Sink>(
         (record { files = H.files shelf.old; faults = H.faults shelf.old; sinks = record { out = O.written out.old; out_faults = O.faults out.old; err = E.written err.old; err_faults = E.faults err.old } })
         (record { files = H.files shelf.new; faults = H.faults shelf.new; sinks = record { out = O.written out.new; out_faults = O.faults out.new; err = E.written err.new; err_faults = E.faults err.new } }) result }
     ensures headline { result ≡ 0 → IfTold (H.files shelf.old) (SimulationHolds sheet.now mode ticks) }
+    ensures objection { result ≡ 1 → IfTold (H.files shelf.old) (λ files. ⊥) }
+    ensures shelf { LeavesShelf (H.files shelf.old) (H.files shelf.new) (H.faults shelf.old) (H.faults shelf.new) (H.is_open shelf.new) result }
     ensures seldom { result ≢ 2 }
 {
     match simulation_at(alloc, shelf, sheet, mode, ticks) {
@@ -173,6 +170,8 @@ fn judge_run<H: Shelf, O: Sink, E: Sink>(
         (record { files = H.files shelf.old; faults = H.faults shelf.old; sinks = record { out = O.written out.old; out_faults = O.faults out.old; err = E.written err.old; err_faults = E.faults err.old } })
         (record { files = H.files shelf.new; faults = H.faults shelf.new; sinks = record { out = O.written out.new; out_faults = O.faults out.new; err = E.written err.new; err_faults = E.faults err.new } }) result }
     ensures headline { result ≡ 0 → IfTold (H.files shelf.old) (RunHolds sheet.now name.now) }
+    ensures objection { result ≡ 1 → IfTold (H.files shelf.old) (RunFails sheet.now name.now) }
+    ensures shelf { LeavesShelf (H.files shelf.old) (H.files shelf.new) (H.faults shelf.old) (H.faults shelf.new) (H.is_open shelf.new) result }
     ensures seldom { result ≢ 2 }
 {
     match audit_at(alloc, shelf, sheet, name) {
@@ -194,6 +193,8 @@ fn run_audit<H: Shelf, O: Sink, E: Sink>(
         (record { files = H.files shelf.old; faults = H.faults shelf.old; sinks = record { out = O.written out.old; out_faults = O.faults out.old; err = E.written err.old; err_faults = E.faults err.old } })
         (record { files = H.files shelf.new; faults = H.faults shelf.new; sinks = record { out = O.written out.new; out_faults = O.faults out.new; err = E.written err.new; err_faults = E.faults err.new } }) result }
     ensures headline { result ≡ 0 → IfTold (H.files shelf.old) (AuditHolds sheet.now run.now) }
+    ensures objection { result ≡ 1 → IfTold (H.files shelf.old) (AuditFails sheet.now run.now) }
+    ensures shelf { LeavesShelf (H.files shelf.old) (H.files shelf.new) (H.faults shelf.old) (H.faults shelf.new) (H.is_open shelf.new) result }
     ensures seldom { result ≢ 2 }
 {
     match sheet_at(alloc, shelf, sheet) {
@@ -227,7 +228,9 @@ fn report_on<H: Shelf, O: Sink, E: Sink>(
     ensures answers { Answers (report_rest sheet.now form name.now) (IsAt Source.Certificate)
         (record { files = H.files shelf.old; faults = H.faults shelf.old; sinks = record { out = O.written out.old; out_faults = O.faults out.old; err = E.written err.old; err_faults = E.faults err.old } })
         (record { files = H.files shelf.new; faults = H.faults shelf.new; sinks = record { out = O.written out.new; out_faults = O.faults out.new; err = E.written err.new; err_faults = E.faults err.new } }) result }
-    ensures headline { result ≡ 0 → IfTold (H.files shelf.old) (BoundsHold sheet.now name.now) }
+    ensures headline { result ≡ 0 → IfTold (H.files shelf.old) (BoundsHold sheet.now false name.now) }
+    ensures objection { result ≡ 1 → IfTold (H.files shelf.old) (CertificateFails sheet.now false name.now) }
+    ensures shelf { LeavesShelf (H.files shelf.old) (H.files shelf.new) (H.faults shelf.old) (H.faults shelf.new) (H.is_open shelf.new) result }
     ensures seldom { result ≢ 2 }
 {
     match report_at(alloc, shelf, sheet, name, form) {
@@ -249,7 +252,9 @@ fn run_report<H: Shelf, O: Sink, E: Sink>(
     ensures answers { Answers (report_answer sheet.now certificate.now form) (MayFailAfterSheet Source.Certificate sheet.now (H.files shelf.old))
         (record { files = H.files shelf.old; faults = H.faults shelf.old; sinks = record { out = O.written out.old; out_faults = O.faults out.old; err = E.written err.old; err_faults = E.faults err.old } })
         (record { files = H.files shelf.new; faults = H.faults shelf.new; sinks = record { out = O.written out.new; out_faults = O.faults out.new; err = E.written err.new; err_faults = E.faults err.new } }) result }
-    ensures headline { result ≡ 0 → IfTold (H.files shelf.old) (HeadlineHolds sheet.now certificate.now) }
+    ensures headline { result ≡ 0 → IfTold (H.files shelf.old) (HeadlineHolds sheet.now certificate.now false) }
+    ensures objection { result ≡ 1 → IfTold (H.files shelf.old) (CheckFails sheet.now certificate.now false) }
+    ensures shelf { LeavesShelf (H.files shelf.old) (H.files shelf.new) (H.faults shelf.old) (H.faults shelf.new) (H.is_open shelf.new) result }
     ensures seldom { result ≢ 2 }
 {
     match sheet_at(alloc, shelf, sheet) {
@@ -273,6 +278,7 @@ fn run_exercise<H: Shelf, O: Sink, E: Sink>(
         (record { files = H.files shelf.now; faults = H.faults shelf.now; sinks = record { out = O.written out.old; out_faults = O.faults out.old; err = E.written err.old; err_faults = E.faults err.old } })
         (record { files = H.files shelf.now; faults = H.faults shelf.now; sinks = record { out = O.written out.new; out_faults = O.faults out.new; err = E.written err.new; err_faults = E.faults err.new } }) result }
     ensures headline { result ≡ 0 → ExerciseHolds seed tasks }
+    ensures never { result ≢ 1 }
     ensures seldom { result ≢ 2 }
 {
     match exercise_print(alloc, seed, tasks) {
@@ -297,6 +303,8 @@ pub fn poet_run<H: Shelf, O: Sink, E: Sink>(
         (record { files = H.files shelf.new; faults = H.faults shelf.new; sinks = record { out = O.written out.new; out_faults = O.faults out.new; err = E.written err.new; err_faults = E.faults err.new } }) result }
     ensures usage { result ≡ 2 ↔ (command_in (map string_bytes words.now.items) ≡ None) }
     ensures headline { result ≡ 0 → IfTold (H.files shelf.old) (Headline (command_in (map string_bytes words.now.items))) }
+    ensures objection { result ≡ 1 → IfTold (H.files shelf.old) (Objection (command_in (map string_bytes words.now.items))) }
+    ensures shelf { LeavesShelf (H.files shelf.old) (H.files shelf.new) (H.faults shelf.old) (H.faults shelf.new) (H.is_open shelf.new) result }
 {
     match command_of(words) {
         None => tell_refusal(&Refusal::Usage, err),

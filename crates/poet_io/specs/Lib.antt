@@ -1,4 +1,5 @@
 pub mod Calls
+pub mod Decimals
 pub mod Faults
 pub mod FileShelves
 pub mod MemFiles

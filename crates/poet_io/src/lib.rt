@@ -15,7 +15,7 @@ mod std_sink;
 pub use file_shelf::FileShelf;
 pub use mem_shelf::MemShelf;
 pub use mem_sink::MemSink;
-pub use numbers::{put_number, read_number};
+pub use numbers::{put_number, read_number, read_number_in};
 pub use pushing::{push_field, push_number};
 pub use shelf::{ReadRefusal, Shelf, ShelfFault, read_whole};
 pub use sink::{Sink, SinkFault, write_all, write_parts};

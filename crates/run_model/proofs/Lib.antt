@@ -1,1 +1,2 @@
+pub mod PendingFacts
 pub mod ServiceFacts

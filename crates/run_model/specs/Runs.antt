@@ -1,4 +1,4 @@
-use Rattle.std.specs.Prelude.{ℕ, ◌<◌, ◌≤◌, ◌==◌, [], Bool, true, false, length, take, drop, count_by, slice_index_or}
+use Rattle.std.specs.Prelude.{ℕ, ◌<◌, ◌≤◌, ◌==◌, ◌&&◌, [], Bool, true, false, not, length, nat_le, nat_lt, take, drop, count_by, slice_index_or}
 use Rattle.task_sheet.specs.declared.tasks.Job.{Job}
 use Rattle.run_model.specs.declared.run.Run.{Run}
 use Rattle.run_model.specs.declared.run.Tick.{Tick}
@@ -43,3 +43,10 @@ pub record IsPending (run : Run) (k t : ℕ) : Type 0 where
   pub listed : k < length run.jobs
   pub arrived : (job_at run k).arrival ≤ t
   pub not_done : service_of run k t < (job_at run k).cost
+
+-- both, as tests
+abbrev pub is_done : Run → ℕ → ℕ → Bool
+is_done run k t = nat_le (job_at run k).cost (service_of run k t)
+
+abbrev pub is_pending : Run → ℕ → ℕ → Bool
+is_pending run k t = nat_lt k (length run.jobs) && (nat_le (job_at run k).arrival t && not (is_done run k t))

@@ -1,17 +1,19 @@
 -- The lines of counts, jobs and stretches, as they are written and as they are read.
-use Rattle.std.proofs.Common.{◌≡◌, ℕ, suc, ◌+◌, ◌<◌, ◌≤◌, ◌^◌, ◌==◌, Bool, true, false, cond, ◌&&◌, List, [], ◌∷◌, ◌++◌, length, codes, decimal, map, refl, sym, ap, subst, ◌∙◌, arith, Option, Some, None, append_assoc, append-nil, length-append, inl, inr}
+use Rattle.std.proofs.Common.{◌≡◌, ℕ, zero, suc, ◌+◌, ◌<◌, ◌≤◌, ◌^◌, ◌==◌, Bool, true, false, cond, ◌&&◌, List, [], ◌∷◌, ◌++◌, length, codes, decimal, map, refl, sym, ap, subst, ◌∙◌, arith, Option, Some, None, append_assoc, append-nil, length-append, inl, inr}
 use Rattle.std.specs.List.{All, AllByRecursion, flat_map}
 use Rattle.std.specs.Option.{option_map, option_and_then}
 use Rattle.std.proofs.lemmas.Bool.{cases_Bool, and_parts, ne_eqb, eq-eqb, both_ways}
 use Rattle.std.proofs.lemmas.List.Elements.{All-nil, All-cons}
+use Rattle.poet_io.specs.Decimals.{number_in}
+use Rattle.poet_io.proofs.RangeFacts.{number_in-decimal, number_in-Some}
 use Rattle.task_sheet.specs.declared.tasks.Job.{Job}
 use Rattle.run_model.specs.declared.run.Run.{Run}
 use Rattle.run_model.specs.declared.run.Tick.{Tick}
 use Rattle.run_model.specs.declared.run.Tick.TheVariants.{Off, Idle, Runs}
 use Rattle.run_text.specs.Text.{Stretch, stretch, tick_words, stretch_line, segment_text, job_line, counts_line, limit, IsSegment, IsJob, IsTickOf}
-use Rattle.run_text.specs.Words.{words_of, is_text, number_in}
-use Rattle.run_text.specs.Lines.{both, counts_from, counts_of, job_number, segments_from, make_job, job_with, job_from, job_of, counted, stretch_from, stretch_of}
-use Rattle.run_text.proofs.WordFacts.{Lacks, lacks_append, decimal_lacks, words_last, words_more, words_of-numbers, text_is, number_in-decimal, number_is}
+use Rattle.run_text.specs.Words.{words_of, is_text}
+use Rattle.run_text.specs.Lines.{both, counts_from, counts_of, job_number, segments_from, make_job, job_with, job_from, job_of, counted, named_job, stretch_from, stretch_of}
+use Rattle.run_text.proofs.WordFacts.{Lacks, lacks_append, decimal_lacks, words_last, words_more, words_of-numbers, text_is}
 
 pub all_by_recursion : {X : Type 0} (P : X → Type 0) (xs : List X) → All P xs → AllByRecursion P xs
 all_by_recursion P [] h = tt
@@ -63,8 +65,8 @@ counts_line_is run rest =
 pub counts_of-front : (j t : ℕ) → j ≤ 20000 → t ≤ 100000 → counts_of (counts_front j t) ≡ Some (j, t)
 counts_of-front j t few less =
     let words : words_of (counts_front j t) ≡ counts_words j t = counts_front-words j t (omega arith) (omega arith) in
-    let jobs : number_in 0 20001 (decimal j) ≡ Some j = number_in-decimal 0 20001 j (omega arith) (omega arith) (omega arith) in
-    let ticks : number_in 0 100001 (decimal t) ≡ Some t = number_in-decimal 0 100001 t (omega arith) (omega arith) (omega arith) in
+    let jobs : number_in 0 20000 (decimal j) ≡ Some j = number_in-decimal 0 20000 j (omega arith) (omega arith) few in
+    let ticks : number_in 0 100000 (decimal t) ≡ Some t = number_in-decimal 0 100000 t (omega arith) (omega arith) less in
     ap counts_from words ∙ rw (jobs, ticks) refl
 
 both_is : {A B : Type 0} (x : Option A) (y : Option B) (a : A) (b : B) → both x y ≡ Some (a, b) → (x ≡ Some a) × (y ≡ Some b)
@@ -83,14 +85,14 @@ counts_back (a ∷ (b ∷ (c ∷ []))) j t = λ e. absurd (cc)
 counts_back (a ∷ (b ∷ (c ∷ (d ∷ [])))) j t = elim (cases_Bool (is_text a (codes "jobs") && is_text c (codes "ticks"))) [
   | inl h ↦ rw h (λ e.
       let tests = and_parts (is_text a (codes "jobs")) (is_text c (codes "ticks")) h in
-      let numbers = both_is (number_in 0 20001 b) (number_in 0 100001 d) j t e in
-      let jobs = number_is 0 20001 b j numbers.0 in
-      let ticks = number_is 0 100001 d t numbers.1 in
+      let numbers = both_is (number_in 0 20000 b) (number_in 0 100000 d) j t e in
+      let jobs = number_in-Some 0 20000 b j numbers.0 in
+      let ticks = number_in-Some 0 100000 d t numbers.1 in
       let first : a ≡ codes "jobs" = text_is a (codes "jobs") tests.0 in
       let second : c ≡ codes "ticks" = text_is c (codes "ticks") tests.1 in
       let same_jobs : b ≡ decimal j = jobs.0 in
       let same_ticks : d ≡ decimal t = ticks.0 in
-      (rw (first, second, same_jobs, same_ticks) refl, omega (arith, jobs.2), omega (arith, ticks.2)))
+      (rw (first, second, same_jobs, same_ticks) refl, jobs.2, ticks.2))
   | inr h ↦ rw h (λ e. absurd (cc))
 ]
 counts_back (a ∷ (b ∷ (c ∷ (d ∷ (f ∷ ws))))) j t = λ e. absurd (cc)
@@ -128,16 +130,26 @@ tick_words-lacks m (Runs k) few of =
 pub stretch_front-lacks : (m : ℕ) (x : Tick) (n : ℕ) → m < 2 ^ 64 → IsTickOf m x → n < 2 ^ 64 → Lacks 10 (stretch_front x n)
 stretch_front-lacks m x n few of h = lacks_append 10 (tick_words x) (decimal n) (tick_words-lacks m x few of) (decimal_lacks 10 n (omega arith) h)
 
+named_job-decimal : (m k : ℕ) → m < 2 ^ 64 → k < m → named_job m (decimal k) ≡ Some k
+named_job-decimal zero k small below = absurd (omega arith)
+named_job-decimal (suc last) k small below = number_in-decimal 0 last k (omega arith) (omega arith) (omega arith)
+
+named_job-Some : (m : ℕ) (word : List ℕ) (k : ℕ) → named_job m word ≡ Some k → (word ≡ decimal k) × (k < m)
+named_job-Some zero word k e = absurd (cc)
+named_job-Some (suc last) word k e =
+    let r = number_in-Some 0 last word k e in
+    (r.0, omega (arith, r.2))
+
 counted-decimal : (left : ℕ) (x : Tick) (n : ℕ) → left ≤ 100000 → 1 ≤ n → n ≤ left → counted left x (decimal n) ≡ Some (stretch x n)
 counted-decimal left x n few some le =
-    let number : number_in 1 (left + 1) (decimal n) ≡ Some n = number_in-decimal 1 (left + 1) n some (omega arith) (omega arith) in
+    let number : number_in 1 left (decimal n) ≡ Some n = number_in-decimal 1 left n (omega arith) some le in
     rw number refl
 
 stretch_from-words : (m left : ℕ) (x : Tick) (n : ℕ) → m ≤ 20000 → left ≤ 100000 → IsTickOf m x → 1 ≤ n → n ≤ left → stretch_from m left (stretch_words x n) ≡ Some (stretch x n)
 stretch_from-words m left Off n small few of some le = counted-decimal left Off n few some le
 stretch_from-words m left Idle n small few of some le = counted-decimal left Idle n few some le
 stretch_from-words m left (Runs k) n small few of some le =
-    let number : number_in 0 m (decimal k) ≡ Some k = number_in-decimal 0 m k (omega arith) of (omega arith) in
+    let number : named_job m (decimal k) ≡ Some k = named_job-decimal m k (omega arith) of in
     ap (λ (o : Option ℕ). option_and_then (λ job. counted left (Runs job) (decimal n)) o) number ∙ counted-decimal left (Runs k) n few some le
 
 pub stretch_of-front : (m left : ℕ) (x : Tick) (n : ℕ) → m ≤ 20000 → left ≤ 100000 → IsTickOf m x → 1 ≤ n → n ≤ left → stretch_of m left (stretch_front x n) ≡ Some (stretch x n)
@@ -151,17 +163,17 @@ pub record ReadsStretch (m left : ℕ) (ws : List (List ℕ)) (s : Stretch) : Ty
   pub some : 1 ≤ s.count
   pub few : s.count ≤ left
 
-counted_by : (left : ℕ) (x : Tick) (n : List ℕ) (s : Stretch) (o : Option ℕ) → number_in 1 (left + 1) n ≡ o → option_map (λ count. stretch x count) o ≡ Some s →
+counted_by : (left : ℕ) (x : Tick) (n : List ℕ) (s : Stretch) (o : Option ℕ) → number_in 1 left n ≡ o → option_map (λ count. stretch x count) o ≡ Some s →
     (n ≡ decimal s.count) × (x ≡ s.tick) × (1 ≤ s.count) × (s.count ≤ left)
 counted_by left x n s None is e = absurd (cc)
 counted_by left x n s (Some k) is e =
     let same : stretch x k ≡ s = cc in
-    let r = number_is 1 (left + 1) n k is in
+    let r = number_in-Some 1 left n k is in
     let count : k ≡ s.count = ap (λ (t : Stretch). t.count) same in
     (r.0 ∙ ap decimal count, ap (λ (t : Stretch). t.tick) same, omega (arith, count, r.1), omega (arith, count, r.2))
 
 counted-is : (left : ℕ) (x : Tick) (n : List ℕ) (s : Stretch) → counted left x n ≡ Some s → (n ≡ decimal s.count) × (x ≡ s.tick) × (1 ≤ s.count) × (s.count ≤ left)
-counted-is left x n s e = counted_by left x n s (number_in 1 (left + 1) n) refl e
+counted-is left x n s e = counted_by left x n s (number_in 1 left n) refl e
 
 plain_reads : (m left : ℕ) (a n : List ℕ) (x : Tick) (word : List ℕ) (s : Stretch) → is_text a word ≡ true → ((k : ℕ) → stretch_words x k ≡ word ∷ (decimal k ∷ [])) → IsTickOf m x → counted left x n ≡ Some s → ReadsStretch m left (a ∷ (n ∷ [])) s
 plain_reads m left a n x word s test words of e =
@@ -175,17 +187,17 @@ plain_reads m left a n x word s test words of e =
       few = r.3;
     }
 
-job_reads : (m left : ℕ) (a k n : List ℕ) (s : Stretch) (o : Option ℕ) → is_text a (codes "run") ≡ true → number_in 0 m k ≡ o → option_and_then (λ job. counted left (Runs job) n) o ≡ Some s → ReadsStretch m left (a ∷ (k ∷ (n ∷ []))) s
+job_reads : (m left : ℕ) (a k n : List ℕ) (s : Stretch) (o : Option ℕ) → is_text a (codes "run") ≡ true → named_job m k ≡ o → option_and_then (λ job. counted left (Runs job) n) o ≡ Some s → ReadsStretch m left (a ∷ (k ∷ (n ∷ []))) s
 job_reads m left a k n s None test is e = absurd (cc)
 job_reads m left a k n s (Some j) test is e =
     let r = counted-is left (Runs j) n s e in
-    let job = number_is 0 m k j is in
+    let job = named_job-Some m k j is in
     let first : a ≡ codes "run" = text_is a (codes "run") test in
     let second : k ≡ decimal j = job.0 in
     let number : n ≡ decimal s.count = r.0 in
     record {
       words = rw (first, second, number) refl ∙ ap (λ (y : Tick). stretch_words y s.count) r.1;
-      of = subst (IsTickOf m) r.1 job.2;
+      of = subst (IsTickOf m) r.1 job.1;
       some = r.2;
       few = r.3;
     }
@@ -201,7 +213,7 @@ stretch_back m left (a ∷ (n ∷ [])) s = elim (cases_Bool (is_text a (codes "o
   ])
 ]
 stretch_back m left (a ∷ (k ∷ (n ∷ []))) s = elim (cases_Bool (is_text a (codes "run"))) [
-  | inl h ↦ rw h (λ e. job_reads m left a k n s (number_in 0 m k) h refl e)
+  | inl h ↦ rw h (λ e. job_reads m left a k n s (named_job m k) h refl e)
   | inr h ↦ rw h (λ e. absurd (cc))
 ]
 stretch_back m left (a ∷ (k ∷ (n ∷ (b ∷ ws)))) s = λ e. absurd (cc)
@@ -254,7 +266,7 @@ job_front-lacks j h =
     (refl, (refl, lacks_append 10 t (codes " " ++ (a ++ (codes " " ++ (c ++ s)))) (decimal_lacks 10 j.task (omega arith) (omega (arith, h.task))) (refl, middle)))
 
 job_number-decimal : (n : ℕ) → n ≤ limit → job_number (decimal n) ≡ Some n
-job_number-decimal n h = number_in-decimal 0 1000000001 n (omega arith) (omega arith) (omega arith)
+job_number-decimal n h = number_in-decimal 0 1000000000 n (omega arith) (omega arith) h
 
 -- a number that is not the greatest one
 room_test : (k m room : ℕ) → k + suc m ≤ room → (k == room) ≡ false
@@ -296,14 +308,14 @@ segments_back room done (w ∷ ws) v few = elim (cases_Bool (length done == room
   | inr h ↦ rw h (λ e.
       let other : length done ≡ room → ⊥ = λ same. absurd (both_ways (length done == room) h (eq-eqb (length done) room same)) in
       let first = segment_first room done w ws v (job_number w) refl e in
-      let number = number_is 0 1000000001 w first.0 first.1 in
+      let number = number_in-Some 0 1000000000 w first.0 first.1 in
       let rest = segments_back room (done ++ first.0 ∷ []) ws v (omega (arith, other, length-append done (first.0 ∷ []))) first.2 in
       record {
         more = first.0 ∷ rest.more;
         is = rest.is ∙ append_assoc done (first.0 ∷ []) rest.more;
         words = ap (λ (v : List ℕ). v ∷ ws) number.0 ∙ ap (λ (l : List (List ℕ)). decimal first.0 ∷ l) rest.words;
         few = rest.few;
-        all = (omega (arith, number.2), rest.all);
+        all = (number.2, rest.all);
       })
 ]
 
@@ -321,9 +333,9 @@ job_parts room t r c ws j (Some task) (Some arrival) None os it ia ic iss e = ab
 job_parts room t r c ws j (Some task) (Some arrival) (Some cost) None it ia ic iss e = absurd (cc)
 job_parts room t r c ws j (Some task) (Some arrival) (Some cost) (Some segs) it ia ic iss e =
     let same : make_job task arrival cost segs ≡ j = cc in
-    let nt = number_is 0 1000000001 t task it in
-    let na = number_is 0 1000000001 r arrival ia in
-    let nc = number_is 0 1000000001 c cost ic in
+    let nt = number_in-Some 0 1000000000 t task it in
+    let na = number_in-Some 0 1000000000 r arrival ia in
+    let nc = number_in-Some 0 1000000000 c cost ic in
     let read = segments_back room [] ws segs (omega arith) iss in
     let wt : t ≡ decimal task = nt.0 in
     let wa : r ≡ decimal arrival = na.0 in
@@ -332,7 +344,7 @@ job_parts room t r c ws j (Some task) (Some arrival) (Some cost) (Some segs) it 
     let all : All IsSegment segs = all_again IsSegment segs (subst (AllByRecursion IsSegment) (sym read.is) read.all) in
     let found : ReadsJob room (codes "j" ∷ (t ∷ (r ∷ (c ∷ ws)))) (make_job task arrival cost segs) = record {
       words = rw (wt, wa, wc, ws_is) refl;
-      job = record { task = omega (arith, nt.2); arrival = omega (arith, na.2); cost = omega (arith, nc.2); segs = all };
+      job = record { task = nt.2; arrival = na.2; cost = nc.2; segs = all };
       few = read.few;
     } in
     subst (ReadsJob room (codes "j" ∷ (t ∷ (r ∷ (c ∷ ws))))) same found

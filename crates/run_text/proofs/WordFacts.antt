@@ -1,14 +1,13 @@
--- Words between spaces, lines between newlines, and the numbers that words write.
-use Rattle.std.proofs.Common.{◌≡◌, ℕ, zero, suc, ◌+◌, ◌<◌, ◌≤◌, ◌^◌, ◌%◌, ◌==◌, true, false, ◌&&◌, nat_le, nat_lt, List, [], ◌∷◌, ◌++◌, length, take, drop, get_or, refl, sym, ap, ◌∙◌, arith, decimal, Option, Some, None, inl, inr, map, append-nil}
+-- Words between spaces, and lines between newlines.
+use Rattle.std.proofs.Common.{◌≡◌, ℕ, zero, suc, ◌+◌, ◌<◌, ◌≤◌, ◌^◌, ◌%◌, ◌==◌, true, false, nat_lt, List, [], ◌∷◌, ◌++◌, length, take, drop, get_or, refl, sym, ap, ◌∙◌, arith, decimal, Some, None, inl, inr, map, append-nil}
 use Rattle.std.specs.List.{AllByRecursion, flat_map, position, position_or_len}
-use Rattle.std.specs.Str.Parse.{digits_value}
 use Rattle.std.specs.Cmp.Lexicographic.{bytes_decides}
-use Rattle.std.proofs.lemmas.Fmt.{decimal_by_steps, decimal_is_IsNumeral}
-use Rattle.std.proofs.lemmas.Bool.{cases_Bool, eqb-true, eq-eqb, and_parts, both_ways, leb-true, ltb-true}
+use Rattle.std.proofs.lemmas.Fmt.{decimal_by_steps}
+use Rattle.std.proofs.lemmas.Bool.{cases_Bool, eqb-true, eq-eqb, both_ways}
 use Rattle.std.proofs.lemmas.List.Quantifiers.{position-Some}
 use Rattle.std.proofs.lemmas.Bool.Decides.{nat_tests}
 use Rattle.run_text.specs.Text.{segment_text}
-use Rattle.run_text.specs.Words.{words_of, with_byte, is_text, number_in}
+use Rattle.run_text.specs.Words.{words_of, with_byte, is_text}
 
 -- the byte does not stand in the bytes
 abbrev pub Lacks : ℕ → List ℕ → Type 0
@@ -109,51 +108,11 @@ pub words_of-numbers : (w : List ℕ) (ns : List ℕ) → Lacks 32 w → AllByRe
 words_of-numbers w [] h all = words_last (w ++ []) (lacks_append 32 w [] h tt) ∙ ap (λ (v : List ℕ). v ∷ []) (append-nil w)
 words_of-numbers w (n ∷ ns) h all = words_more w (decimal n ++ flat_map segment_text ns) h ∙ ap (λ ws. w ∷ ws) (words_of-numbers (decimal n) ns (decimal_lacks 32 n (omega arith) all.0) all.1)
 
-none_of : (o : Option ℕ) → ((n : ℕ) → o ≡ Some n → ⊥) → None ≡ o
-none_of None h = refl
-none_of (Some n) h = absurd (h n refl)
-
 pub text_is : (a b : List ℕ) → is_text a b ≡ true → a ≡ b
 text_is a b h = (bytes_decides a b).0 h
 
 pub is_text-self : (a : List ℕ) → is_text a a ≡ true
 is_text-self a = (bytes_decides a a).1 refl
-
-range_test : (low end n : ℕ) → low ≤ n → n < end → (nat_le low n && nat_lt n end) ≡ true
-range_test low end n h k = grind (arith, nat_tests)
-
-pub number_in-decimal : (low end n : ℕ) → low ≤ n → n < end → end ≤ 2 ^ 64 → number_in low end (decimal n) ≡ Some n
-unfolding number_in
-number_in-decimal low end n least less fits =
-    let value : digits_value 10 (decimal n) ≡ n = (decimal_is_IsNumeral n (omega arith)).1 in
-    let test : is_text (decimal n) (decimal n) ≡ true = is_text-self (decimal n) in
-    let range : (nat_le low n && nat_lt n end) ≡ true = range_test low end n least less in
-    rw (value, test, range) refl
-
-pub number_is : (low end : ℕ) (bytes : List ℕ) (n : ℕ) → number_in low end bytes ≡ Some n → (bytes ≡ decimal n) × (low ≤ n) × (n < end)
-unfolding number_in
-number_is low end bytes n = elim (cases_Bool (is_text bytes (decimal (digits_value 10 bytes)) && (nat_le low (digits_value 10 bytes) && nat_lt (digits_value 10 bytes) end))) [
-  | inl h ↦ rw h (λ e.
-      let parts = and_parts (is_text bytes (decimal (digits_value 10 bytes))) (nat_le low (digits_value 10 bytes) && nat_lt (digits_value 10 bytes) end) h in
-      let bounds = and_parts (nat_le low (digits_value 10 bytes)) (nat_lt (digits_value 10 bytes) end) parts.1 in
-      let value : digits_value 10 bytes ≡ n = cc in
-      (text_is bytes (decimal (digits_value 10 bytes)) parts.0 ∙ ap decimal value, rw (← value) (leb-true low (digits_value 10 bytes) bounds.0), rw (← value) (ltb-true (digits_value 10 bytes) end bounds.1)))
-  | inr h ↦ rw h (λ e. absurd (cc))
-]
-
--- there is no such number, since there is none below 2^64
-pub number_in-none : (low end : ℕ) (bytes : List ℕ) → end ≤ 2 ^ 64 → ((n : ℕ) → n < 2 ^ 64 → bytes ≡ decimal n → ⊥) → None ≡ number_in low end bytes
-number_in-none low end bytes fits none = none_of (number_in low end bytes) (λ n e. let r = number_is low end bytes n e in none n (omega (arith, r.2)) r.0)
-
--- the decimal's number is out of range
-pub number_in-outside : (low end : ℕ) (bytes : List ℕ) (m : ℕ) → m < 2 ^ 64 → end ≤ 2 ^ 64 → bytes ≡ decimal m → (low ≤ m → m < end → ⊥) → None ≡ number_in low end bytes
-number_in-outside low end bytes m small fits is out = none_of (number_in low end bytes) (λ n e.
-    let r = number_is low end bytes n e in
-    let same : m ≡ n = sym ((decimal_is_IsNumeral m small).1) ∙ ap (digits_value 10) (sym is ∙ r.0) ∙ (decimal_is_IsNumeral n (omega (arith, r.2))).1 in
-    out (omega (arith, same, r.1)) (omega (arith, same, r.2)))
-
-pub number_in-inside : (low end : ℕ) (bytes : List ℕ) (m : ℕ) → end ≤ 2 ^ 64 → bytes ≡ decimal m → low ≤ m → m < end → Some m ≡ number_in low end bytes
-number_in-inside low end bytes m fits is least less = sym (ap (number_in low end) is ∙ number_in-decimal low end m least less fits)
 
 lacks_take : (c : ℕ) (line : List ℕ) (i : ℕ) → i ≤ length line → ((k : ℕ) → k < i → (get_or line k 0 == c) ≡ false) → Lacks c (take i line)
 lacks_take c [] zero le h = tt

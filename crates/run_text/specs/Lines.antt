@@ -1,11 +1,12 @@
 -- What a line of a run's text says, read by itself.
-use Rattle.std.specs.Prelude.{ℕ, ◌+◌, ◌==◌, ◌&&◌, if◌then◌else◌, List, [], ◌∷◌, ◌++◌, length, codes, Option, Some, None}
+use Rattle.std.specs.Prelude.{ℕ, zero, suc, ◌==◌, ◌&&◌, if◌then◌else◌, List, [], ◌∷◌, ◌++◌, length, codes, Option, Some, None}
 use Rattle.std.specs.Option.{option_map, option_and_then}
+use Rattle.poet_io.specs.Decimals.{number_in}
 use Rattle.task_sheet.specs.declared.tasks.Job.{Job}
 use Rattle.run_model.specs.declared.run.Tick.{Tick}
 use Rattle.run_model.specs.declared.run.Tick.TheVariants.{Off, Idle, Runs}
 use Rattle.run_text.specs.Text.{Stretch, stretch, limit}
-use Rattle.run_text.specs.Words.{words_of, is_text, number_in}
+use Rattle.run_text.specs.Words.{words_of, is_text}
 
 -- the pair, if both are there
 abbrev pub both : {A B : Type 0} → Option A → Option B → Option (A × B)
@@ -14,7 +15,7 @@ both _ _ = None
 
 -- the numbers of jobs and ticks of the words jobs J ticks T
 abbrev pub counts_from : List (List ℕ) → Option (ℕ × ℕ)
-counts_from (a ∷ (j ∷ (b ∷ (t ∷ [])))) = if is_text a (codes "jobs") && is_text b (codes "ticks") then both (number_in 0 (20000 + 1) j) (number_in 0 (100000 + 1) t) else None
+counts_from (a ∷ (j ∷ (b ∷ (t ∷ [])))) = if is_text a (codes "jobs") && is_text b (codes "ticks") then both (number_in 0 20000 j) (number_in 0 100000 t) else None
 counts_from _ = None
 
 -- the line of the counts
@@ -23,7 +24,7 @@ counts_of line = counts_from (words_of line)
 
 -- a number of a job
 abbrev pub job_number : List ℕ → Option ℕ
-job_number word = number_in 0 (limit + 1) word
+job_number word = number_in 0 limit word
 
 -- the segments behind these, one a word, of which there are at most so many
 abbrev pub segments_from : ℕ → List ℕ → List (List ℕ) → Option (List ℕ)
@@ -50,15 +51,20 @@ job_of room line = job_from room (words_of line)
 
 -- so many equal ticks, where so many are left
 abbrev pub counted : ℕ → Tick → List ℕ → Option Stretch
-counted left x n = option_map (λ count. stretch x count) (number_in 1 (left + 1) n)
+counted left x n = option_map (λ count. stretch x count) (number_in 1 left n)
 
 -- the stretch of the words off N, or idle N
 abbrev pub plain_stretch : ℕ → List ℕ → List ℕ → Option Stretch
 plain_stretch left a n = if is_text a (codes "off") then counted left Off n else (if is_text a (codes "idle") then counted left Idle n else None)
 
+-- the job that a word names, where so many jobs are numbered from 0
+abbrev pub named_job : ℕ → List ℕ → Option ℕ
+named_job zero word = None
+named_job (suc last) word = number_in 0 last word
+
 -- the stretch of the words run K N
 abbrev pub job_stretch : ℕ → ℕ → List ℕ → List ℕ → List ℕ → Option Stretch
-job_stretch jobs left a k n = if is_text a (codes "run") then option_and_then (λ job. counted left (Runs job) n) (number_in 0 jobs k) else None
+job_stretch jobs left a k n = if is_text a (codes "run") then option_and_then (λ job. counted left (Runs job) n) (named_job jobs k) else None
 
 -- the stretch of these words
 abbrev pub stretch_from : ℕ → ℕ → List (List ℕ) → Option Stretch

@@ -127,8 +127,7 @@ impl Draft {
         before: Option<Tick>,
         left: u64,
     ) -> Result<bool, AllocError>
-        requires jobs { length self.old.jobs.items ≤ 20000 }
-        requires left { left ≤ 100000 }
+        requires { length self.old.jobs.items ≤ 20000 }
         ensures { IfOk result (λ fits.
             after_stretch before left self.old.jobs.items self.old.ticks.items line.now ≡
             part_if fits self.new) }

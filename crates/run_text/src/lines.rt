@@ -1,14 +1,15 @@
 //! What a line of a run's text says, read by itself.
 
-ghost use Rattle.std.specs.Prelude.{◌≡◌, ◌+◌, ◌≤◌, [], length, IfOk, IfSome};
+ghost use Rattle.std.specs.Prelude.{◌≡◌, ◌<◌, ◌≤◌, [], length, IfOk, IfSome};
 ghost use Rattle.std.specs.Option.{option_map};
+ghost use Rattle.poet_io.specs.Decimals.{number_in};
 ghost use Rattle.run_text.specs.Text.{stretch};
-ghost use Rattle.run_text.specs.Words.{number_in};
 ghost use Rattle.run_text.specs.Unread.{unread};
-ghost use Rattle.run_text.specs.Lines.{counts_of, job_number, segments_from, make_job, job_with, job_of, plain_stretch, job_stretch, stretch_of};
+ghost use Rattle.run_text.specs.Lines.{counts_of, job_number, segments_from, make_job, job_with, job_of, named_job, plain_stretch, job_stretch, stretch_of};
 
-use crate::words::{Words, read_number_in};
+use crate::words::Words;
 use lists::Items;
+use poet_io::read_number_in;
 use run_model::Tick;
 use std::alloc::{AllocError, Global};
 use task_sheet::Job;
@@ -44,10 +45,10 @@ pub(crate) fn read_counts(line: &[u8]) -> Option<(u64, u64)>
     if words.next().is_some() || first != b"jobs".as_slice() || second != b"ticks".as_slice() {
         return None;
     }
-    let Some(jobs) = read_number_in(jobs, 0, MOST_JOBS + 1) else {
+    let Some(jobs) = read_number_in(jobs, 0, MOST_JOBS) else {
         return None;
     };
-    let Some(ticks) = read_number_in(ticks, 0, MOST_TICKS + 1) else {
+    let Some(ticks) = read_number_in(ticks, 0, MOST_TICKS) else {
         return None;
     };
     Some((jobs, ticks))
@@ -55,16 +56,14 @@ pub(crate) fn read_counts(line: &[u8]) -> Option<(u64, u64)>
 
 /// How often a tick comes, where `left` ticks are left.
 fn read_count(word: &[u8], left: u64) -> Option<u64>
-    requires { left ≤ 100000 }
-    ensures count { result ≡ number_in 1 (left + 1) word.now }
+    ensures count { result ≡ number_in 1 left word.now }
     ensures few { IfSome result (λ n. n ≤ left) }
 {
-    read_number_in(word, 1, left + 1)
+    read_number_in(word, 1, left)
 }
 
 /// The tick of the words `off N` or `idle N`, and how often it comes.
 fn read_plain_stretch(first: &[u8], count: &[u8], left: u64) -> Option<(Tick, u64)>
-    requires { left ≤ 100000 }
     ensures few { IfSome result (λ s. s.1 ≤ left) }
     ensures stretch { option_map (λ s. stretch s.0 s.1) result ≡
         plain_stretch left first.now count.now }
@@ -82,6 +81,17 @@ fn read_plain_stretch(first: &[u8], count: &[u8], left: u64) -> Option<(Tick, u6
     Some((tick, count))
 }
 
+/// The job that a word names, where so many jobs are numbered from 0.
+fn read_named_job(word: &[u8], jobs: u64) -> Option<u64>
+    ensures named { result ≡ named_job jobs word.now }
+    ensures below { IfSome result (λ job. job < jobs) }
+{
+    if jobs == 0 {
+        return None;
+    }
+    read_number_in(word, 0, jobs - 1)
+}
+
 /// The tick of the words `run K N`, and how often it comes.
 fn read_job_stretch(
     first: &[u8],
@@ -90,8 +100,7 @@ fn read_job_stretch(
     jobs: u64,
     left: u64,
 ) -> Option<(Tick, u64)>
-    requires jobs { jobs ≤ 20000 }
-    requires left { left ≤ 100000 }
+    requires { jobs ≤ 20000 }
     ensures few { IfSome result (λ s. s.1 ≤ left) }
     ensures stretch { option_map (λ s. stretch s.0 s.1) result ≡
         job_stretch jobs left first.now job.now count.now }
@@ -99,7 +108,7 @@ fn read_job_stretch(
     if first != b"run".as_slice() {
         return None;
     }
-    let Some(job) = read_number_in(job, 0, jobs) else {
+    let Some(job) = read_named_job(job, jobs) else {
         return None;
     };
     let Some(count) = read_count(count, left) else {
@@ -112,8 +121,7 @@ fn read_job_stretch(
 ///
 /// There are so many jobs, and `left` ticks are left.
 pub(crate) fn read_stretch(line: &[u8], jobs: u64, left: u64) -> Option<(Tick, u64)>
-    requires jobs { jobs ≤ 20000 }
-    requires left { left ≤ 100000 }
+    requires { jobs ≤ 20000 }
     ensures few { IfSome result (λ s. s.1 ≤ left) }
     ensures stretch { option_map (λ s. stretch s.0 s.1) result ≡ stretch_of jobs left line.now }
 {
@@ -138,7 +146,7 @@ fn read_job_number(word: &[u8]) -> Option<u64>
     ensures number { result ≡ job_number word.now }
     ensures small { IfSome result (λ n. n ≤ 1000000000) }
 {
-    read_number_in(word, 0, LIMIT + 1)
+    read_number_in(word, 0, LIMIT)
 }
 
 /// The segments that the words are, of which there are at most `room`.

@@ -1,10 +1,8 @@
 //! The words of a line.
 
-ghost use Rattle.std.specs.Prelude.{◌≡◌, ◌≤◌, ◌<◌, ◌==◌, length, position, IfSome};
-ghost use Rattle.run_text.specs.Words.{words_of, number_in};
+ghost use Rattle.std.specs.Prelude.{◌≡◌, ◌<◌, ◌==◌, length, position, IfSome};
+ghost use Rattle.run_text.specs.Words.{words_of};
 ghost use Rattle.run_text.specs.Unread.{unread};
-
-use poet_io::read_number;
 
 /// The words of a line, which stand between its spaces.
 #[derive(Drop)]
@@ -53,22 +51,4 @@ impl<'a> Iterator for Words<'a> {
         self.rest = &line[end + 1..];
         Some(&line[..end])
     }
-}
-
-/// The number whose canonical decimal the bytes are, if it is at least `low` and below `end`.
-pub(crate) fn read_number_in(bytes: &[u8], low: u64, end: u64) -> Option<u64>
-    ensures value { result ≡ number_in low end bytes.now }
-    ensures range { IfSome result (λ n. n < end) }
-    ensures least { IfSome result (λ n. low ≤ n) }
-{
-    let Some(n) = read_number(bytes) else {
-        return None;
-    };
-    if n < low {
-        return None;
-    }
-    if n >= end {
-        return None;
-    }
-    Some(n)
 }

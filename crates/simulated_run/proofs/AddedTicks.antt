@@ -9,10 +9,11 @@ use Rattle.preemption.specs.CutLaws.{IsLawfulCut}
 use Rattle.run_model.specs.declared.run.Run.{Run}
 use Rattle.run_model.specs.declared.run.Tick.{Tick}
 use Rattle.run_model.specs.declared.run.Tick.TheVariants.{Off, Idle, Runs}
-use Rattle.run_model.specs.Runs.{job_at, tick_at, runs, is_on, service_of, ticks_in, IsPending, IsDone}
+use Rattle.run_model.specs.Runs.{job_at, tick_at, runs, is_on, service_of, ticks_in, is_pending, IsPending, IsDone}
+use Rattle.run_model.proofs.PendingFacts.{pending_from, pending_to}
 use Rattle.run_model.proofs.ServiceFacts.{runs_tells, tick_cases}
 use Rattle.schedule_laws.specs.Compliance.{arrivals_of, can_cut, JobFits, MayRun, IsSupplied, IsWithinCurves}
-use Rattle.simulated_run.specs.SimulatedRun.{World, with_tick, choice, chosen, inside_segment, most_urgent, may_be_off, comes_before, is_pending}
+use Rattle.simulated_run.specs.SimulatedRun.{World, with_tick, choice, chosen, inside_segment, most_urgent, may_be_off, comes_before}
 use Rattle.simulated_run.proofs.SearchFacts.{first_cases, best_cases, best_first, no_best}
 use Rattle.simulated_run.proofs.OrderFacts.{comes_itself, comes_chain, later_key, earlier_first}
 use Rattle.simulated_run.proofs.RunFacts.{ticks_more, tick_kept, tick_new, service_kept, service_new, window_kept, window_new}
@@ -25,15 +26,6 @@ pub record MayFollow (w : World) (t : ℕ) (run : Run) (y : Tick) : Type 0 where
   pub inside : y ≢ Off → (k : ℕ) → k < length run.jobs → can_cut w.cuts w.sheet run k t ≡ false → y ≡ Runs k
   pub may_run : (k : ℕ) → y ≡ Runs k → MayRun run k t
   pub policy : (k n : ℕ) → y ≡ Runs k → can_cut w.cuts w.sheet run k t ≡ true → IsPending run n t → key_le (w.policy.key w.sheet (job_at run k)) (w.policy.key w.sheet (job_at run n)) ≡ true
-
--- between the fact and the test
-pub pending_passes : (run : Run) (k t : ℕ) → IsPending run k t → is_pending run k t ≡ true
-pending_passes run k t p = and_from _ _ (le-leb _ _ p.arrived) (lt-ltb _ _ p.not_done)
-
-pub passes_pending : (run : Run) (k t : ℕ) → k < length run.jobs → is_pending run k t ≡ true → IsPending run k t
-passes_pending run k t b p =
-    let both = and_parts _ _ p in
-    record { listed = b; arrived = leb-true _ _ both.0; not_done = ltb-true _ _ both.1 }
 
 module _ (w : World) (laws : IsLawful w) (t : ℕ) (run : Run) (sound : IsSound w t run) where
   cut_laws : (k : ℕ) → k < length run.jobs → IsLawfulCut w.cuts (task_at w.sheet (job_at run k).task)
@@ -74,8 +66,8 @@ module _ (w : World) (laws : IsLawful w) (t : ℕ) (run : Run) (sound : IsSound 
   follows_urgent : (k : ℕ) → k < length run.jobs → is_pending run k t ≡ true → most_urgent w run t ≡ Some k → ((i : ℕ) → i < length run.jobs → can_cut w.cuts w.sheet run i t ≡ true) → MayFollow w t run (Runs k)
   unfolding most_urgent
   follows_urgent k b p is cuts =
-      let is_first : (i : ℕ) → IsPending run i t → comes_before w run i k ≡ false = λ i q. best_first (λ i. is_pending run i t) (comes_before w run) (length run.jobs) k i (comes_chain w run) (comes_itself w run) is q.listed (pending_passes run i t q) in
-      let pends : IsPending run k t = passes_pending run k t b p in
+      let is_first : (i : ℕ) → IsPending run i t → comes_before w run i k ≡ false = λ i q. best_first (λ i. is_pending run i t) (comes_before w run) (length run.jobs) k i (comes_chain w run) (comes_itself w run) is q.listed (pending_to run i t q) in
+      let pends : IsPending run k t = pending_from run k t p in
       let orders : (n : ℕ) → n < length run.jobs → (job_at run n).task ≡ (job_at run k).task → (job_at run n).arrival < (job_at run k).arrival → IsDone run n t = λ n c same less. elim (cases_lt (service_of run n t) (job_at run n).cost) [
         | inr l ↦ l
         | inl l ↦
@@ -107,7 +99,7 @@ module _ (w : World) (laws : IsLawful w) (t : ℕ) (run : Run) (sound : IsSound 
           let is : choice w run t ≡ Idle = ap (λ (o : Option ℕ). chosen o (most_urgent w run t)) never.is ∙ ap (chosen None) nobody in
           subst (MayFollow w t run) (sym is) (record {
             off = λ e. absurd (cc);
-            idle = λ e k p. (let z = no_best (λ k. is_pending run k t) (comes_before w run) (length run.jobs) k nobody p.listed in let y = pending_passes run k t p in absurd (cc));
+            idle = λ e k p. (let z = no_best (λ k. is_pending run k t) (comes_before w run) (length run.jobs) k nobody p.listed in let y = pending_to run k t p in absurd (cc));
             inside = λ on k b g. absurd (let z = never.all k b in cc);
             may_run = λ k e. absurd (cc);
             policy = λ k n e. absurd (cc);

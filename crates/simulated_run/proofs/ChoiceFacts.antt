@@ -5,14 +5,14 @@ use Rattle.std.proofs.lemmas.Bool.{leb-true, le-leb, lt-leb, false_from_ne_true}
 use Rattle.lists.proofs.FirstFacts.{all_parts, all_from, all_broken}
 use Rattle.run_model.specs.declared.run.Run.{Run}
 use Rattle.run_model.specs.declared.run.Tick.TheVariants.{Off}
-use Rattle.run_model.specs.Runs.{is_on, ticks_in, IsPending}
+use Rattle.run_model.specs.Runs.{is_on, ticks_in, is_pending, IsPending}
+use Rattle.run_model.proofs.PendingFacts.{pending_from, pending_to}
 use Rattle.run_model.proofs.ServiceFacts.{ticks_in_none}
 use Rattle.schedule_laws.specs.Compliance.{can_cut}
-use Rattle.simulated_run.specs.SimulatedRun.{World, with_tick, is_pending, comes_before, inside_segment, most_urgent, may_be_off}
+use Rattle.simulated_run.specs.SimulatedRun.{World, with_tick, comes_before, inside_segment, most_urgent, may_be_off}
 use Rattle.simulated_run.proofs.SearchFacts.{first_is, first_never, first_none, first_some, best_found, best_none, best_some, best_first, no_best}
 use Rattle.simulated_run.proofs.OrderFacts.{comes_itself, comes_chain, comes_once}
 use Rattle.simulated_run.proofs.RunFacts.{window_new}
-use Rattle.simulated_run.proofs.AddedTicks.{pending_passes, passes_pending}
 
 -- job k is inside a segment, and no job before it
 pub record IsInside (w : World) (run : Run) (t k : ℕ) : Type 0 where
@@ -50,26 +50,26 @@ module _ (w : World) (run : Run) (t : ℕ) where
   urgent_some k e =
       let f = best_found (λ k. is_pending run k t) (comes_before w run) (length run.jobs) k e in
       record {
-        pending = passes_pending run k t f.listed f.passes;
-        first = λ n p. best_first (λ k. is_pending run k t) (comes_before w run) (length run.jobs) k n (comes_chain w run) (comes_itself w run) e p.listed (pending_passes run n t p);
+        pending = pending_from run k t f.passes;
+        first = λ n p. best_first (λ k. is_pending run k t) (comes_before w run) (length run.jobs) k n (comes_chain w run) (comes_itself w run) e p.listed (pending_to run n t p);
       }
 
   pub urgent_none : most_urgent w run t ≡ None → (k : ℕ) → IsPending run k t → ⊥
   unfolding most_urgent
   urgent_none e k p =
       let z = no_best (λ k. is_pending run k t) (comes_before w run) (length run.jobs) k e p.listed in
-      let y = pending_passes run k t p in
+      let y = pending_to run k t p in
       absurd (cc)
 
   -- the one that comes before all others
   pub some_urgent : (k : ℕ) → IsPending run k t → ((n : ℕ) → IsPending run n t → n ≢ k → comes_before w run k n ≡ true) → most_urgent w run t ≡ Some k
   unfolding most_urgent
   some_urgent k p first =
-      best_some (λ k. is_pending run k t) (comes_before w run) k (length run.jobs) p.listed (pending_passes run k t p) (λ n b h ne. (let f = first n (passes_pending run n t b h) ne in (f, comes_once w run k n f)))
+      best_some (λ k. is_pending run k t) (comes_before w run) k (length run.jobs) p.listed (pending_to run k t p) (λ n b h ne. (let f = first n (pending_from run n t h) ne in (f, comes_once w run k n f)))
 
   pub none_urgent : ((k : ℕ) → IsPending run k t → ⊥) → most_urgent w run t ≡ None
   unfolding most_urgent
-  none_urgent none = best_none (λ k. is_pending run k t) (comes_before w run) (length run.jobs) (λ k b. false_from_ne_true _ (λ h. none k (passes_pending run k t b h)))
+  none_urgent none = best_none (λ k. is_pending run k t) (comes_before w run) (length run.jobs) (λ k b. false_from_ne_true _ (λ h. none k (pending_from run k t h)))
 
 module _ (sbf : ℕ → ℕ) (run : Run) (t : ℕ) (now : length run.ticks ≡ t) where
   -- where the new tick is off, a window that ends with it has the ticks before it

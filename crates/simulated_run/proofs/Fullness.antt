@@ -9,7 +9,7 @@ use Rattle.simulated_run.specs.declared.mode.Mode.{Mode}
 use Rattle.simulated_run.specs.declared.mode.Mode.TheVariants.{Dense}
 use Rattle.simulated_run.specs.Jobs.{new_job}
 use Rattle.simulated_run.specs.SimulatedRun.{World, Moment, arriving, after_arriving, room, add_job, add_jobs, arrive_of, arrive_below, moment_after, simulated_run}
-use Rattle.simulated_run.specs.Laws.{IsFull}
+use Rattle.simulated_run.specs.Laws.{IsDense}
 use Rattle.simulated_run.proofs.AllowanceFacts.{allowance_tight}
 use Rattle.simulated_run.proofs.GrowthFacts.{BeginsWith, begins_trans, tasks_in_turn, moment_extends, moments_in_turn}
 use Rattle.simulated_run.proofs.RunFacts.{arrivals_more, arrivals_le, arrivals_front}
@@ -43,7 +43,7 @@ module _ (w : World) where
   unfolding arrivals_of
   later_counted n o t s b h = arrivals_front (arrive_below w t (suc o) (moment_after w t)).run (simulated_run w n).jobs o s (t + 1) (arrivals_stay n o t b h)
 
-  pub full : w.mode ≡ Dense → (n o t : ℕ) → o < length w.sheet.tasks → t < n → IsFull w n o t
+  pub full : w.mode ≡ Dense → (n : ℕ) → IsDense w.sheet n (simulated_run w n)
   full dense n o t b h =
       let m : Moment = arrive_below w t o (moment_after w t) in
       let most = allowance_tight (task_at w.sheet o).curve o t m.run in

@@ -12,7 +12,7 @@ use Rattle.preemption.specs.CutMeaning.{CutMeaning}
 use Rattle.run_model.specs.declared.run.Run.{Run}
 use Rattle.run_model.specs.declared.run.Tick.{Tick}
 use Rattle.run_model.specs.declared.run.Tick.TheVariants.{Off, Idle, Runs}
-use Rattle.run_model.specs.Runs.{job_at, is_on, service_of, ticks_in}
+use Rattle.run_model.specs.Runs.{job_at, is_on, ticks_in, is_pending}
 use Rattle.schedule_laws.specs.Compliance.{arrivals_of, can_cut}
 use Rattle.simulated_run.specs.declared.mode.Mode.{Mode}
 use Rattle.simulated_run.specs.declared.mode.Mode.TheVariants.{Dense, Seed}
@@ -73,10 +73,6 @@ is_off (Seed seed) may state = may && (word state % 2 == 1)
 abbrev pub after_off : Mode → Bool → ℕ → ℕ
 after_off Dense may state = state
 after_off (Seed seed) may state = cond may (next state) state
-
--- job k has arrived by t and is not done
-abbrev pub is_pending : Run → ℕ → ℕ → Bool
-is_pending run k t = nat_le (job_at run k).arrival t && nat_lt (service_of run k t) (job_at run k).cost
 
 -- job k comes before job n: by key, then by task, then by arrival, then by number
 abbrev pub by_number : (ℕ × ℕ × ℕ) → (ℕ × ℕ × ℕ) → Bool

@@ -17,8 +17,8 @@ use Rattle.task_sheet.specs.SheetParts.{SheetParts}
 use Rattle.task_sheet.specs.declared.tasks.Job.{Job}
 use Rattle.policy.specs.PolicyMeaning.{PolicyMeaning}
 use Rattle.run_model.specs.declared.run.Run.{Run}
-use Rattle.run_model.specs.Runs.{no_job}
-use Rattle.simulated_run.specs.SimulatedRun.{World, is_pending, most_urgent, comes_before}
+use Rattle.run_model.specs.Runs.{no_job, is_pending}
+use Rattle.simulated_run.specs.SimulatedRun.{World, most_urgent, comes_before}
 use Rattle.simulated_run.proofs.GrowthFacts.{length_more}
 use Rattle.simulated_run.proofs.SearchFacts.{best_some, best_none}
 use Rattle.simulated_run.proofs.OrderFacts.{comes_before_is}

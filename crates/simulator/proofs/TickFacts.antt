@@ -13,10 +13,10 @@ use Rattle.preemption.specs.CutMeaning.{CutMeaning}
 use Rattle.run_model.specs.declared.run.Run.{Run}
 use Rattle.run_model.specs.declared.run.Tick.{Tick}
 use Rattle.run_model.specs.declared.run.Tick.TheVariants.{Off, Idle, Runs}
-use Rattle.run_model.specs.Runs.{job_at, service_of, is_on}
+use Rattle.run_model.specs.Runs.{job_at, service_of, is_on, is_pending}
 use Rattle.run_model.proofs.ServiceFacts.{runs_tells}
 use Rattle.schedule_laws.specs.Compliance.{can_cut}
-use Rattle.simulated_run.specs.SimulatedRun.{World, Moment, with_tick, add_tick, choice, chosen, most_urgent, is_pending, comes_before, may_be_off, is_off, after_off}
+use Rattle.simulated_run.specs.SimulatedRun.{World, Moment, with_tick, add_tick, choice, chosen, most_urgent, comes_before, may_be_off, is_off, after_off}
 use Rattle.simulated_run.proofs.SearchFacts.{best_found, IsFound}
 use Rattle.simulator.specs.declared.machine.Machine.{Machine}
 use Rattle.simulator.specs.declared.machine.Rank.{Rank}

@@ -6,6 +6,8 @@ ghost use Rattle.preemption.specs.CutLaws.{Serves};
 ghost use Rattle.supply.specs.Promises.{sbf_of};
 ghost use Rattle.run_text.specs.Text.{IsWithinLimits};
 ghost use Rattle.schedule_laws.specs.Compliance.{IsCompliant};
+ghost use Rattle.simulated_run.specs.declared.mode.Mode.TheVariants.{Dense};
+ghost use Rattle.simulated_run.specs.Laws.{IsDense};
 ghost use Rattle.simulated_run.specs.SimulatedRun.{World, world_of, seed_of as seed_by, arrive_below, moment_after};
 ghost use Rattle.simulator.specs.Simulations.{IsSimulation, IsRefusal};
 ghost use Rattle.simulator.specs.Kept.{IsKept, world_by, moment_of};
@@ -20,7 +22,7 @@ use preemption::Preemption;
 use rand_core::SeedableRng;
 use rand_xoshiro::SplitMix64;
 use run_model::Run;
-use simulated_run::{Mode, simulation_complies};
+use simulated_run::{Mode, dense_is_full, simulation_complies};
 use std::alloc::{AllocError, Global};
 use std::collections::BTreeMap;
 use supply::Supply;
@@ -95,7 +97,8 @@ fn run_tick<P: Policy, M: Preemption>(
 
 /// The simulated run of a sheet's first `n` ticks, up to 100,000; `supply` is what the sheet states.
 ///
-/// The run complies with the sheet, and can be written. It is refused by `Jobs` where it has more than
+/// The run complies with the sheet, and can be written; in mode dense as many jobs arrive at each
+/// tick as the curves still admit. It is refused by `Jobs` where it has more than
 /// 20,000 jobs, and by `Segments` where their segments are more than 1,000,000, as soon as a job
 /// passes a limit; a job that passes both limits passes `Jobs`.
 pub fn simulate<P: Policy, M: Preemption, S: Supply>(
@@ -110,11 +113,13 @@ pub fn simulate<P: Policy, M: Preemption, S: Supply>(
     requires stated { S.sbf supply.now ≡ sbf_of sheet.now.supply }
     ensures exact { IsSimulation (world_of P.meaning M.cuts (S.sbf supply.now) sheet.now mode) n result }
     ensures complies { IfOk result (IsCompliant P.meaning M.cuts (S.sbf supply.now) sheet.now) }
+    ensures full { mode ≡ Dense → IfOk result (IsDense sheet.now n) }
     ensures within { IfOk result IsWithinLimits }
 {
     // what the clauses rest on
     supply.known();
     simulation_complies::<P, M, S>();
+    dense_is_full::<P, M, S>();
     let mut machine = start::<P, M>(alloc, sheet, mode)?;
     for t in 0..n {
         run_tick::<P, M>(alloc, sheet, mode, &mut machine, t)?;

@@ -16,7 +16,7 @@ use Rattle.solver.proofs.Chain.{entry_meets}
 
 module _ (p : PolicyMeaning) (m : CutMeaning) (sbf : ℕ → ℕ) (sheet : SheetParts) (laws : Laws p m sbf sheet) (i : ℕ) (in_range : i < length sheet.tasks) where
   -- an end with which the bound serves at a
-  record ServesAt (bound a : ℕ) : Type 0 where
+  pub record ServesAt (bound a : ℕ) : Type 0 where
     pub end : ℕ
     pub meets : MeetsEnd p m sbf sheet i a end
     pub within : MeetsBound p m sbf sheet i a end bound
@@ -51,7 +51,7 @@ module _ (p : PolicyMeaning) (m : CutMeaning) (sbf : ℕ → ℕ) (sheet : Sheet
       let le : x ≤ serves.end = least.least serves.end serves.meets in
       record { end = omega (arith, serves.within.end); enough = omega (arith, serves.within.enough, laws.need_grows i a x serves.end le) }
 
-  each_bound : (bound window : ℕ) (qs : List (ℕ × ℕ)) → ((a : ℕ) → a < window → ServesAt bound a) → AllByRecursion (λ q. IsLeast (MeetsEnd p m sbf sheet i q.0) q.1) qs → AllByRecursion (λ q. q.0 < window) qs → MeetsEach p m sbf sheet i qs bound
+  pub each_bound : (bound window : ℕ) (qs : List (ℕ × ℕ)) → ((a : ℕ) → a < window → ServesAt bound a) → AllByRecursion (λ q. IsLeast (MeetsEnd p m sbf sheet i q.0) q.1) qs → AllByRecursion (λ q. q.0 < window) qs → MeetsEach p m sbf sheet i qs bound
   each_bound bound window [] serves ends below = tt
   each_bound bound window (q ∷ qs) serves ends below = (with_least bound q.0 q.1 ends.0 (serves q.0 below.0), each_bound bound window qs serves ends.1 below.1)
 
@@ -65,17 +65,20 @@ module _ (p : PolicyMeaning) (m : CutMeaning) (sbf : ℕ → ℕ) (sheet : Sheet
       b.bound.least other.bound (each_bound other.bound best.window best.points (λ a lt. at_first other.window other.bound a other.points some t.points (omega (arith, le))) b.ends (below_each best.window best.bound None best.points own.points))
 
   -- the window is an end and a bound at each offset below it
-  window_serves : (window a : ℕ) → IsWindow p m sbf sheet i window → a < window → ServesAt window a
+  pub window_ends : (window a : ℕ) → IsWindow p m sbf sheet i window → a < window → MeetsEnd p m sbf sheet i a window
+  window_ends window a w lt = record { enough = omega (arith, laws.need_fits i a window in_range lt, w.enough) }
+
+  pub window_serves : (window a : ℕ) → IsWindow p m sbf sheet i window → a < window → ServesAt window a
   window_serves window a w lt =
       let fits = laws.need_fits i a window in_range lt in
       record {
         end = window;
-        meets = record { enough = omega (arith, fits, w.enough) };
+        meets = window_ends window a w lt;
         within = record { end = omega arith; enough = omega (arith, fits, w.enough, grows sbf laws window (a + window) (omega arith)) };
       }
 
   pub end_exists : (window a : ℕ) → IsWindow p m sbf sheet i window → a < window → ((x : ℕ) → x ≤ window → MeetsEnd p m sbf sheet i a x → ⊥) → ⊥
-  end_exists window a w lt none = none window (omega arith) (record { enough = omega (arith, laws.need_fits i a window in_range lt, w.enough) })
+  end_exists window a w lt none = none window (omega arith) (window_ends window a w lt)
 
   pub bound_exists : (window a x : ℕ) → IsWindow p m sbf sheet i window → a < window → x ≤ window → ((bound : ℕ) → bound ≤ window → MeetsBound p m sbf sheet i a x bound → ⊥) → ⊥
   bound_exists window a x w lt le none =
@@ -89,7 +92,7 @@ module _ (p : PolicyMeaning) (m : CutMeaning) (sbf : ℕ → ℕ) (sheet : Sheet
       AllByRecursion (λ q. (q.0 ≤ horizon) × (q.1 ≤ horizon)) qs
   each_within window horizon [] le w ends below = tt
   each_within window horizon (q ∷ qs) le w ends below =
-      ((omega (arith, below.0), omega (arith, ends.0.least window (record { enough = omega (arith, laws.need_fits i q.0 window in_range below.0, w.enough) }))), each_within window horizon qs le w ends.1 below.1)
+      ((omega (arith, below.0), omega (arith, ends.0.least window (window_ends window q.0 w below.0))), each_within window horizon qs le w ends.1 below.1)
 
   -- the bound of a best entry is at most its window
   pub bound_within : (best : Entry) → IsBestEntry p m sbf sheet i best → best.bound ≤ best.window

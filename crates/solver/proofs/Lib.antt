@@ -5,4 +5,6 @@ pub mod Chain
 pub mod Least
 pub mod Unique
 pub mod Listed
+pub mod Found
+pub mod Single
 pub mod Theorems

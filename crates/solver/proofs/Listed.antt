@@ -1,4 +1,4 @@
-use Rattle.std.proofs.Common.{◌≡◌, ℕ, zero, suc, ◌+◌, ◌-◌, ◌<◌, ◌≤◌, List, [], ◌∷◌, ◌++◌, length, ap, sym, ◌∙◌, subst, refl, add-one, arith, inl, inr, length-append, Ok, Err}
+use Rattle.std.proofs.Common.{◌≡◌, ℕ, zero, suc, ◌+◌, ◌-◌, ◌<◌, ◌≤◌, List, [], ◌∷◌, ◌++◌, length, ap, sym, ◌∙◌, subst, refl, add-one, arith, inl, inr, length-append}
 use Rattle.std.proofs.lemmas.Bool.{cases_lt}
 use Rattle.std.proofs.lemmas.List.{length-map}
 use Rattle.std.proofs.Math.ListN.{get_or-append}
@@ -7,13 +7,7 @@ use Rattle.task_sheet.specs.SheetParts.{SheetParts}
 use Rattle.policy.specs.PolicyMeaning.{PolicyMeaning}
 use Rattle.preemption.specs.CutMeaning.{CutMeaning}
 use Rattle.certificate.specs.declared.cert.Entry.{Entry}
-use Rattle.abstract_rta.specs.Meeting.{IsWindow}
-use Rattle.lists.specs.Searches.{IsLeast}
-use Rattle.solver.specs.declared.analysis.AnalyseRefusal.TheVariants.{NoBound, Points}
-use Rattle.solver.specs.Laws.{Laws}
 use Rattle.solver.specs.Points.{points_below}
-use Rattle.solver.specs.Outcome.{first_entries, best_of}
-use Rattle.solver.proofs.Unique.{entry_is, next_none, next_many, next_entry, err_last}
 use Rattle.solver.specs.Best.{IsBestEntry, nth_entry, AreBest, points_to, HaveEntries, IsBest}
 
 -- the entries of the first i tasks, and how many points may follow
@@ -21,7 +15,6 @@ pub record EntriesSoFar (p : PolicyMeaning) (m : CutMeaning) (sbf : ℕ → ℕ)
   pub count : length entries ≡ i
   pub best : AreBest p m sbf sheet horizon entries
   pub room_left : points_to entries i + room ≡ 1000000
-  pub same : first_entries p m sbf sheet horizon i ≡ Ok entries
 
 entry_before : (entries : List Entry) (e : Entry) (k : ℕ) → k < length entries → nth_entry (entries ++ e ∷ []) k ≡ nth_entry entries k
 entry_before entries e k l = get_or-append entries (e ∷ []) _ k l
@@ -45,15 +38,13 @@ points_one entries (suc n) i l = elim (cases_lt i n) [
 
 module _ (p : PolicyMeaning) (m : CutMeaning) (sbf : ℕ → ℕ) (sheet : SheetParts) (horizon : ℕ) where
   pub entries_none : EntriesSoFar p m sbf sheet horizon 0 1000000 []
-  unfolding first_entries
-  entries_none = record { count = refl; best = λ i l. absurd (omega arith); room_left = refl; same = refl }
+  entries_none = record { count = refl; best = λ i l. absurd (omega arith); room_left = refl }
 
-  pub entries_more : Laws p m sbf sheet → (i room count : ℕ) (entries : List Entry) (e : Entry) → i < length sheet.tasks → EntriesSoFar p m sbf sheet horizon i room entries → e.window ≤ horizon → IsBestEntry p m sbf sheet i e →
+  pub entries_more : (i room count : ℕ) (entries : List Entry) (e : Entry) → EntriesSoFar p m sbf sheet horizon i room entries → e.window ≤ horizon → IsBestEntry p m sbf sheet i e →
       count ≡ length (points_below p sheet i e.window) → count ≤ room → EntriesSoFar p m sbf sheet horizon (i + 1) (room - count) (entries ++ e ∷ [])
-  entries_more laws i room count entries e in_range so_far within best counted le =
+  entries_more i room count entries e so_far within best counted le =
       let own : length e.points ≡ count = omega (arith, counted, ap length best.offsets, length-map e.points (λ (q : ℕ × ℕ). q.0)) in
       record {
-        same = rw (add-one i) (rw (entry_is p m sbf sheet laws i in_range e best) at (next_entry p m sbf sheet horizon i entries so_far.same e.window within best.window (omega (arith, so_far.room_left, counted))));
         count = omega (arith, length-append entries (e ∷ []), so_far.count);
         best = λ k l. elim (cases_lt k (length entries)) [
           | inl c ↦ subst (λ x. (x.window ≤ horizon) × IsBestEntry p m sbf sheet k x) (sym (entry_before entries e k c)) (so_far.best k c)
@@ -79,18 +70,3 @@ module _ (p : PolicyMeaning) (m : CutMeaning) (sbf : ℕ → ℕ) (sheet : Sheet
 
   pub all_entries : (n room : ℕ) (entries : List Entry) → n ≡ length sheet.tasks → EntriesSoFar p m sbf sheet horizon n room entries → IsBest p m sbf sheet horizon (record { entries = entries })
   all_entries n room entries e so_far = record { count = omega (arith, e, so_far.count); best = so_far.best; few = omega (arith, so_far.room_left, ap (points_to entries) e) }
-
-  pub none_answer : (i room : ℕ) (entries : List Entry) → i < length sheet.tasks → EntriesSoFar p m sbf sheet horizon i room entries → ((window : ℕ) → window ≤ horizon → IsWindow p m sbf sheet i window → ⊥) →
-      best_of p m sbf sheet horizon ≡ Err (NoBound i)
-  none_answer i room entries l so_far none = err_last p m sbf sheet horizon (suc i) (NoBound i) (omega arith) (next_none p m sbf sheet horizon i entries so_far.same none)
-
-  pub many_answer : (i room window : ℕ) (entries : List Entry) → i < length sheet.tasks → EntriesSoFar p m sbf sheet horizon i room entries → window ≤ horizon → IsLeast (IsWindow p m sbf sheet i) window →
-      room < length (points_below p sheet i window) → best_of p m sbf sheet horizon ≡ Err (Points i)
-  many_answer i room window entries l so_far le least many =
-      err_last p m sbf sheet horizon (suc i) (Points i) (omega arith) (next_many p m sbf sheet horizon i entries so_far.same window le least (omega (arith, so_far.room_left)))
-
-  pub ok_answer : (n room : ℕ) (entries : List Entry) → n ≡ length sheet.tasks → EntriesSoFar p m sbf sheet horizon n room entries → best_of p m sbf sheet horizon ≡ Ok (record { entries = entries })
-  unfolding best_of
-  ok_answer n room entries e so_far =
-      let last : first_entries p m sbf sheet horizon (length sheet.tasks) ≡ Ok entries = ap (first_entries p m sbf sheet horizon) (sym e) ∙ so_far.same in
-      rw last refl

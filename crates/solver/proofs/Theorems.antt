@@ -1,4 +1,5 @@
-use Rattle.std.proofs.Common.{◌≡◌, ℕ, ◌<◌, ◌≤◌, false, None, length, arith}
+use Rattle.std.proofs.Common.{◌≡◌, ℕ, ◌<◌, ◌≤◌, false, None, length, arith, Result, Ok, Err}
+use Rattle.std.specs.Prelude.{IfOk, IfErr}
 use Rattle.std.proofs.lemmas.List.Elements.{All-from_recursion, All-get_or, All-from_get_or}
 use Rattle.task_sheet.specs.SheetParts.{SheetParts}
 use Rattle.policy.specs.PolicyMeaning.{PolicyMeaning}
@@ -11,28 +12,31 @@ use Rattle.solver.specs.Laws.{Laws}
 use Rattle.solver.specs.declared.analysis.AnalyseRefusal.{AnalyseRefusal}
 use Rattle.solver.specs.declared.analysis.AnalyseRefusal.TheVariants.{NoBound, Points, Memory}
 use Rattle.solver.specs.Best.{IsBest, IsEntryUpTo, IsUpTo, NoneSmaller, NoneMeets, NoneWhereNoBound, HasCause, HasNoBound}
+use Rattle.solver.specs.Outcome.{IsBestAnswer}
 use Rattle.solver.proofs.Chain.{entry_meets}
 use Rattle.solver.proofs.Listed.{points_one}
 use Rattle.solver.proofs.Least.{window_least, bound_least, below_each, each_within, bound_within}
 use Rattle.solver.proofs.Listing.{points_some, each_weaker}
+use Rattle.solver.proofs.Found.{answer_found}
+use Rattle.solver.proofs.Single.{answers_same}
 
 module _ (p : PolicyMeaning) (m : CutMeaning) (sbf : ℕ → ℕ) (sheet : SheetParts) (horizon : ℕ) where
   pub best_meets : (cert : Cert) → IsBest p m sbf sheet horizon cert → failed_of p m sbf sheet false cert ≡ None
   best_meets cert best =
       cert_none p m sbf sheet false cert (record { count = best.count; tasks = λ i l. let own = best.best i (omega (arith, best.count)) in entry_meets p m sbf sheet i (entry_at cert i) own.1 })
 
-  pub none_smaller : Laws p m sbf sheet → (cert : Cert) → IsBest p m sbf sheet horizon cert → NoneSmaller p m sbf sheet horizon cert
-  none_smaller laws cert best other within up_to none i l =
+  pub none_smaller : Laws p m sbf sheet → (cert : Cert) → IsBest p m sbf sheet horizon cert → NoneSmaller p m sbf sheet cert
+  none_smaller laws cert best other have none i l =
       let meets = cert_means p m sbf sheet false other none in
       let own = best.best i (omega (arith, best.count)) in
       let task = meets.tasks i l in
-      let fits : IsEntry (entry_at other i) = All-get_or IsEntry other.entries i no_entry (omega (arith, meets.count)) within.entries in (
+      let some : 1 ≤ length (entry_at other i).points = All-get_or (λ e. 1 ≤ length e.points) other.entries i no_entry (omega (arith, meets.count)) have in (
         window_least p m sbf sheet laws i l (entry_at cert i) (entry_at other i) false own.1 task,
-        bound_least p m sbf sheet laws i l (entry_at cert i) (entry_at other i) false own.1 fits.some task,
+        bound_least p m sbf sheet laws i l (entry_at cert i) (entry_at other i) false own.1 some task,
       )
 
   none_meets : (i : ℕ) → HasNoBound p m sbf sheet horizon i → NoneMeets p m sbf sheet horizon
-  none_meets i has other within up_to none =
+  none_meets i has other up_to none =
       let meets = cert_means p m sbf sheet false other none in
       let small : IsEntryUpTo horizon (entry_at other i) = All-get_or (IsEntryUpTo horizon) other.entries i no_entry (omega (arith, meets.count, has.before.1.task)) up_to in
       has.none (entry_at other i).window small.window (meets.tasks i has.before.1.task).window
@@ -41,6 +45,13 @@ module _ (p : PolicyMeaning) (m : CutMeaning) (sbf : ℕ → ℕ) (sheet : Sheet
   none_where (NoBound i) h = none_meets i h
   none_where (Points i) h = tt
   none_where Memory h = tt
+
+  -- the best certificate and each refusal with its cause are the function's answer
+  pub best_answer : Laws p m sbf sheet → (r : Result Cert AnalyseRefusal) → IfOk r (IsBest p m sbf sheet horizon) → IfErr r (HasCause p m sbf sheet horizon) → IsBestAnswer p m sbf sheet horizon r
+  best_answer laws (Ok cert) best cause = answers_same p m sbf sheet horizon _ (Ok cert) (answer_found p m sbf sheet laws horizon) best
+  best_answer laws (Err (NoBound i)) best cause = answers_same p m sbf sheet horizon _ (Err (NoBound i)) (answer_found p m sbf sheet laws horizon) cause
+  best_answer laws (Err (Points i)) best cause = answers_same p m sbf sheet horizon _ (Err (Points i)) (answer_found p m sbf sheet laws horizon) cause
+  best_answer laws (Err Memory) best cause = tt
 
   module _ (laws : Laws p m sbf sheet) (cert : Cert) (best : IsBest p m sbf sheet horizon cert) where
     entry_up_to : (i : ℕ) → i < length cert.entries → IsEntryUpTo horizon (entry_at cert i)

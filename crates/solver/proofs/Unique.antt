@@ -1,41 +1,55 @@
-use Rattle.std.proofs.Common.{◌≡◌, ℕ, zero, suc, ◌+◌, ◌-◌, ◌<◌, ◌≤◌, Bool, true, Some, None, List, [], ◌∷◌, ◌++◌, length, map, refl, ap, sym, ◌∙◌, arith, inl, inr, Ok, Err, nat_le, add-suc, add-zero}
-use Rattle.std.specs.List.{AllByRecursion}
-use Rattle.std.proofs.lemmas.Bool.{cases_lt, and_parts, and_from, leb-true, le-leb, lt-leb, false_from_ne_true}
-use Rattle.lists.specs.Searches.{IsLeast}
+-- A search finds the one least number.
+use Rattle.std.proofs.Common.{◌≡◌, ℕ, zero, suc, ◌+◌, ◌<◌, ◌≤◌, Bool, true, cond, Option, Some, None, List, [], ◌∷◌, ◌++◌, length, Ok, refl, ap, ◌∙◌, arith, inl, inr, nat_le}
+use Rattle.std.proofs.lemmas.Bool.{both_ways, cases_lt, cases_Bool, and_parts, and_from, leb-true, le-leb}
+use Rattle.lists.specs.Firsts.{first_of}
+use Rattle.lists.specs.Searches.{IsLeast, IsLeastTo}
 use Rattle.task_sheet.specs.SheetParts.{SheetParts}
 use Rattle.policy.specs.PolicyMeaning.{PolicyMeaning}
 use Rattle.preemption.specs.CutMeaning.{CutMeaning}
 use Rattle.demand.specs.Demand.{window_need_of}
-use Rattle.certificate.specs.declared.cert.Entry.{Entry}
 use Rattle.abstract_rta.specs.Meeting.{IsWindow, MeetsEnd}
+use Rattle.certificate.specs.declared.cert.Entry.{Entry}
 use Rattle.conditions.specs.Conditions.{is_window}
-use Rattle.solver.specs.declared.analysis.AnalyseRefusal.{AnalyseRefusal}
-use Rattle.solver.specs.declared.analysis.AnalyseRefusal.TheVariants.{NoBound, Points}
-use Rattle.solver.specs.Laws.{Laws}
 use Rattle.solver.specs.Points.{points_below}
-use Rattle.solver.specs.Best.{IsBestEntry, MeetsEach, points_to}
-use Rattle.solver.specs.Outcome.{least_to, or_zero, meets_end, meets_bound, best_points, best_of_window, first_entries, best_of}
-use Rattle.solver.proofs.Chain.{entry_meets}
-use Rattle.solver.proofs.Least.{each_within, below_each, bound_within}
+use Rattle.solver.specs.Best.{MeetsEach, points_to}
+use Rattle.solver.specs.Outcome.{least_to, or_zero, meets_end, meets_bound, best_of_window, first_entries}
+use Rattle.solver.proofs.Jumps.{least_here}
 
 -- a test that decides a fact finds its least number
 module _ (P : ℕ → Type 0) (test : ℕ → Bool) (means : (n : ℕ) → test n ≡ true → P n) (from : (n : ℕ) → P n → test n ≡ true) where
-  least_to_none : (limit : ℕ) → ((k : ℕ) → k ≤ limit → P k → ⊥) → least_to test limit ≡ None
-  unfolding least_to
-  least_to_none zero none = rw (false_from_ne_true (test 0) (λ t. none 0 (omega arith) (means 0 t))) refl
-  least_to_none (suc n) none = rw (least_to_none n (λ k l. none k (omega arith)), false_from_ne_true (test (suc n)) (λ t. none (suc n) (omega arith) (means (suc n) t))) refl
-
-  least_to_some : (limit n : ℕ) → n ≤ limit → IsLeast P n → least_to test limit ≡ Some n
-  unfolding least_to
-  least_to_some zero n le least =
-      let e : 0 ≡ n = omega arith in
-      rw (ap test e ∙ from n least.holds) (ap (λ (k : ℕ). Some k) e)
-  least_to_some (suc m) n le least = elim (cases_lt m n) [
-    | inl c ↦
-        let e : suc m ≡ n = omega arith in
-        rw (least_to_none m (λ k l h. absurd (omega (arith, least.least k h))), ap test e ∙ from n least.holds) (ap (λ (k : ℕ). Some k) e)
-    | inr c ↦ rw (least_to_some m n c least) refl
+  here : (n : ℕ) → ((k : ℕ) → k < n → P k → ⊥) → IsLeastTo P n (cond (test n) (Some n) None)
+  here n none = elim (cases_Bool (test n)) [
+    | inl t ↦ rw t (omega arith, least_here P n (means n t) none)
+    | inr f ↦ rw f (λ k l h. elim (cases_lt k n) [
+      | inl c ↦ none k c h
+      | inr c ↦
+          let e : n ≡ k = omega arith in
+          both_ways (test n) f (ap test e ∙ from k h)
+    ])
   ]
+
+  more : (n : ℕ) (before : Option ℕ) → IsLeastTo P n before → IsLeastTo P (suc n) (first_of before (cond (test (suc n)) (Some (suc n)) None))
+  more n (Some k) found = (omega (arith, found.0), found.1)
+  more n None none = here (suc n) (λ k l h. none k (omega arith) h)
+
+  pub least_to_is : (limit : ℕ) → IsLeastTo P limit (least_to test limit)
+  unfolding least_to
+  least_to_is zero = here 0 (λ k l h. omega arith)
+  least_to_is (suc n) = more n (least_to test n) (least_to_is n)
+
+-- there is one least number
+pub same_least : (P : ℕ → Type 0) (k n : ℕ) → IsLeast P k → IsLeast P n → k ≡ n
+same_least P k n a b = omega (arith, a.least n b.holds, b.least k a.holds)
+
+-- a search finds the least number
+pub found_is : (P : ℕ → Type 0) (limit n : ℕ) (found : Option ℕ) → IsLeastTo P limit found → n ≤ limit → IsLeast P n → found ≡ Some n
+found_is P limit n (Some k) found le least = ap (λ (x : ℕ). Some x) (same_least P k n found.1 least)
+found_is P limit n None none le least = absurd (none n le least.holds)
+
+-- where some number up to the limit has the property, the least of them is found
+pub found_least : (P : ℕ → Type 0) (limit n : ℕ) (found : Option ℕ) → IsLeastTo P limit found → n ≤ limit → P n → IsLeast P (or_zero found)
+found_least P limit n (Some k) least le h = least.1
+found_least P limit n None none le h = absurd (none n le h)
 
 module _ (p : PolicyMeaning) (m : CutMeaning) (sbf : ℕ → ℕ) (sheet : SheetParts) (i : ℕ) where
   end_means : (a x : ℕ) → meets_end p m sbf sheet i a x ≡ true → MeetsEnd p m sbf sheet i a x
@@ -43,6 +57,9 @@ module _ (p : PolicyMeaning) (m : CutMeaning) (sbf : ℕ → ℕ) (sheet : Sheet
 
   end_from : (a x : ℕ) → MeetsEnd p m sbf sheet i a x → meets_end p m sbf sheet i a x ≡ true
   end_from a x meets = le-leb _ _ meets.enough
+
+  pub end_found : (a limit : ℕ) → IsLeastTo (MeetsEnd p m sbf sheet i a) limit (least_to (meets_end p m sbf sheet i a) limit)
+  end_found a limit = least_to_is (MeetsEnd p m sbf sheet i a) (meets_end p m sbf sheet i a) (end_means a) (end_from a) limit
 
   bound_means : (qs : List (ℕ × ℕ)) (bound : ℕ) → meets_bound p m sbf sheet i qs bound ≡ true → MeetsEach p m sbf sheet i qs bound
   bound_means [] bound h = tt
@@ -55,12 +72,8 @@ module _ (p : PolicyMeaning) (m : CutMeaning) (sbf : ℕ → ℕ) (sheet : Sheet
   bound_from [] bound meets = refl
   bound_from (q ∷ qs) bound meets = and_from _ _ (and_from _ _ (le-leb _ _ meets.0.end) (le-leb _ _ meets.0.enough)) (bound_from qs bound meets.1)
 
-  -- the points are those of the definition
-  points_listed : (window : ℕ) (qs : List (ℕ × ℕ)) → AllByRecursion (λ q. (q.0 ≤ window) × (q.1 ≤ window)) qs → AllByRecursion (λ q. IsLeast (MeetsEnd p m sbf sheet i q.0) q.1) qs →
-      qs ≡ map (λ a. (a, or_zero (least_to (meets_end p m sbf sheet i a) window))) (map (λ q. q.0) qs)
-  points_listed window [] small ends = refl
-  points_listed window (q ∷ qs) small ends =
-      rw (least_to_some (MeetsEnd p m sbf sheet i q.0) (meets_end p m sbf sheet i q.0) (end_means q.0) (end_from q.0) window q.1 small.0.1 ends.0) (ap (λ r. q ∷ r) (points_listed window qs small.1 ends.1))
+  pub bound_found : (qs : List (ℕ × ℕ)) (limit : ℕ) → IsLeastTo (MeetsEach p m sbf sheet i qs) limit (least_to (meets_bound p m sbf sheet i qs) limit)
+  bound_found qs limit = least_to_is (MeetsEach p m sbf sheet i qs) (meets_bound p m sbf sheet i qs) (bound_means qs) (bound_from qs) limit
 
   window_means : (l : ℕ) → is_window p m sbf sheet i l ≡ true → IsWindow p m sbf sheet i l
   window_means l h =
@@ -70,49 +83,11 @@ module _ (p : PolicyMeaning) (m : CutMeaning) (sbf : ℕ → ℕ) (sheet : Sheet
   window_from : (l : ℕ) → IsWindow p m sbf sheet i l → is_window p m sbf sheet i l ≡ true
   window_from l meets = and_from (nat_le 1 l) (nat_le (window_need_of p m sheet i l) (sbf l)) (le-leb _ _ meets.positive) (le-leb _ _ meets.enough)
 
-entry_same : (e : Entry) (bound : ℕ) (points : List (ℕ × ℕ)) → bound ≡ e.bound → points ≡ e.points → record { window = e.window; bound = bound; points = points } ≡ e
-entry_same e bound points b q = rw (b, q) refl
+  pub window_found : (limit : ℕ) → IsLeastTo (IsWindow p m sbf sheet i) limit (least_to (is_window p m sbf sheet i) limit)
+  window_found limit = least_to_is (IsWindow p m sbf sheet i) (is_window p m sbf sheet i) window_means window_from limit
 
--- there is one best entry
-pub entry_is : (p : PolicyMeaning) (m : CutMeaning) (sbf : ℕ → ℕ) (sheet : SheetParts) (laws : Laws p m sbf sheet) (i : ℕ) (in_range : i < length sheet.tasks) (e : Entry) → IsBestEntry p m sbf sheet i e →
-    best_of_window p m sbf sheet i e.window ≡ e
-unfolding best_of_window best_points
-entry_is p m sbf sheet laws i in_range e b =
-    let meets = entry_meets p m sbf sheet i e b in
-    let below = below_each p m sbf sheet laws i in_range e.window e.bound None e.points meets.points in
-    let small = each_within p m sbf sheet laws i in_range e.window e.window e.points (omega arith) b.window.holds b.ends below in
-    let listed : map (λ a. (a, or_zero (least_to (meets_end p m sbf sheet i a) e.window))) (points_below p sheet i e.window) ≡ e.points =
-    rw b.offsets at (sym (points_listed p m sbf sheet i e.window e.points small b.ends)) in
-    let bound = least_to_some (MeetsEach p m sbf sheet i e.points) (meets_bound p m sbf sheet i e.points) (bound_means p m sbf sheet i e.points) (bound_from p m sbf sheet i e.points) e.window e.bound
-    (bound_within p m sbf sheet laws i in_range e b) b.bound in
-    entry_same e _ _ (rw listed (ap or_zero bound)) listed
-
-module _ (p : PolicyMeaning) (m : CutMeaning) (sbf : ℕ → ℕ) (sheet : SheetParts) (horizon i : ℕ) where
-  module _ (entries : List Entry) (before : first_entries p m sbf sheet horizon i ≡ Ok entries) where
-    pub next_none : ((k : ℕ) → k ≤ horizon → IsWindow p m sbf sheet i k → ⊥) → first_entries p m sbf sheet horizon (suc i) ≡ Err (NoBound i)
-    unfolding first_entries
-    next_none none = rw (before, least_to_none (IsWindow p m sbf sheet i) (is_window p m sbf sheet i) (window_means p m sbf sheet i) (window_from p m sbf sheet i) horizon none) refl
-
-    pub next_many : (window : ℕ) → window ≤ horizon → IsLeast (IsWindow p m sbf sheet i) window → 1000000 < points_to entries i + length (points_below p sheet i window) → first_entries p m sbf sheet horizon (suc i) ≡ Err (Points i)
-    unfolding first_entries
-    next_many window le least many =
-        rw (before, least_to_some (IsWindow p m sbf sheet i) (is_window p m sbf sheet i) (window_means p m sbf sheet i) (window_from p m sbf sheet i) horizon window le least, lt-leb _ _ many) refl
-
-    pub next_entry : (window : ℕ) → window ≤ horizon → IsLeast (IsWindow p m sbf sheet i) window → points_to entries i + length (points_below p sheet i window) ≤ 1000000 →
-        first_entries p m sbf sheet horizon (suc i) ≡ Ok (entries ++ best_of_window p m sbf sheet i window ∷ [])
-    unfolding first_entries
-    next_entry window le least few =
-        rw (before, least_to_some (IsWindow p m sbf sheet i) (is_window p m sbf sheet i) (window_means p m sbf sheet i) (window_from p m sbf sheet i) horizon window le least, le-leb _ _ few) refl
-
-  -- the first refusal stays
-  err_stays : (n : ℕ) (e : AnalyseRefusal) → first_entries p m sbf sheet horizon i ≡ Err e → first_entries p m sbf sheet horizon (i + n) ≡ Err e
-  unfolding first_entries
-  err_stays zero e h = rw add-zero h
-  err_stays (suc n) e h = rw (add-suc i n, err_stays n e h) refl
-
-  pub err_last : (e : AnalyseRefusal) → i ≤ length sheet.tasks → first_entries p m sbf sheet horizon i ≡ Err e → best_of p m sbf sheet horizon ≡ Err e
-  unfolding best_of
-  err_last e le h =
-      let n : i + (length sheet.tasks - i) ≡ length sheet.tasks = omega arith in
-      let last : first_entries p m sbf sheet horizon (length sheet.tasks) ≡ Err e = ap (first_entries p m sbf sheet horizon) (sym n) ∙ err_stays (length sheet.tasks - i) e h in
-      rw last refl
+-- the function goes on with the entry of the least window
+pub next_entry : (p : PolicyMeaning) (m : CutMeaning) (sbf : ℕ → ℕ) (sheet : SheetParts) (horizon i : ℕ) (entries : List Entry) → first_entries p m sbf sheet horizon i ≡ Ok entries → (window : ℕ) → window ≤ horizon → IsLeast (IsWindow p m sbf sheet i) window →
+    points_to entries i + length (points_below p sheet i window) ≤ 1000000 → first_entries p m sbf sheet horizon (suc i) ≡ Ok (entries ++ best_of_window p m sbf sheet i window ∷ [])
+unfolding first_entries
+next_entry p m sbf sheet horizon i entries before window le least few = rw (before, found_is (IsWindow p m sbf sheet i) horizon window _ (window_found p m sbf sheet i horizon) le least, le-leb _ _ few) refl

@@ -7,7 +7,6 @@ use Rattle.policy.specs.PolicyMeaning.{PolicyMeaning}
 use Rattle.preemption.specs.CutMeaning.{CutMeaning}
 use Rattle.certificate.specs.declared.cert.Entry.{Entry}
 use Rattle.certificate.specs.declared.cert.Cert.{Cert}
-use Rattle.certificate.specs.Text.{IsWithinGrammar}
 use Rattle.abstract_rta.specs.Meeting.{IsWindow, MeetsEnd, MeetsBound}
 use Rattle.conditions.specs.Conditions.{no_entry, entry_at, failed_of}
 use Rattle.solver.specs.Points.{points_below}
@@ -81,15 +80,19 @@ pub record IsEntryUpTo (horizon : ℕ) (e : Entry) : Type 0 where
 abbrev pub IsUpTo : ℕ → Cert → Type 0
 IsUpTo horizon cert = All (IsEntryUpTo horizon) cert.entries
 
--- no certificate with numbers up to the horizon that meets the conditions has a smaller window or bound
-abbrev pub NoneSmaller : PolicyMeaning → CutMeaning → (ℕ → ℕ) → SheetParts → ℕ → Cert → Type 0
-NoneSmaller p m sbf sheet horizon cert =
-    (other : Cert) → IsWithinGrammar other → IsUpTo horizon other → failed_of p m sbf sheet false other ≡ None → (i : ℕ) → i < length sheet.tasks →
+-- each entry has at least one point: an entry with none has its bound judged nowhere
+abbrev pub HavePoints : Cert → Type 0
+HavePoints cert = All (λ e. 1 ≤ length e.points) cert.entries
+
+-- no certificate with a point in each entry that meets the conditions has a smaller window or bound
+abbrev pub NoneSmaller : PolicyMeaning → CutMeaning → (ℕ → ℕ) → SheetParts → Cert → Type 0
+NoneSmaller p m sbf sheet cert =
+    (other : Cert) → HavePoints other → failed_of p m sbf sheet false other ≡ None → (i : ℕ) → i < length sheet.tasks →
     ((entry_at cert i).window ≤ (entry_at other i).window) × ((entry_at cert i).bound ≤ (entry_at other i).bound)
 
 -- no certificate with numbers up to the horizon meets the conditions
 abbrev pub NoneMeets : PolicyMeaning → CutMeaning → (ℕ → ℕ) → SheetParts → ℕ → Type 0
-NoneMeets p m sbf sheet horizon = (other : Cert) → IsWithinGrammar other → IsUpTo horizon other → failed_of p m sbf sheet false other ≡ None → ⊥
+NoneMeets p m sbf sheet horizon = (other : Cert) → IsUpTo horizon other → failed_of p m sbf sheet false other ≡ None → ⊥
 
 -- so it is where there is no bound
 abbrev pub NoneWhereNoBound : PolicyMeaning → CutMeaning → (ℕ → ℕ) → SheetParts → ℕ → AnalyseRefusal → Type 0

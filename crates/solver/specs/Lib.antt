@@ -2,3 +2,4 @@ pub mod Laws
 pub mod Points
 pub mod Best
 pub mod Outcome
+pub mod Answer

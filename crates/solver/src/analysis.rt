@@ -41,7 +41,6 @@ fn best_cert<P: Policy, M: Preemption, S: Supply>(
     requires served { Serves M.cuts sheet.now }
     ensures best { IfOk result (IsBest P.meaning M.cuts (S.sbf supply.now) sheet.now horizon) }
     ensures cause { IfErr result (HasCause P.meaning M.cuts (S.sbf supply.now) sheet.now horizon) }
-    ensures exact { IsBestAnswer P.meaning M.cuts (S.sbf supply.now) sheet.now horizon result }
 {
     laws::<P, M, S>(sheet, supply);
     let mut entries = Vec::new(alloc);
@@ -69,7 +68,7 @@ fn best_cert<P: Policy, M: Preemption, S: Supply>(
 /// The best certificate of a sheet: task by task the least window up to the horizon in ticks, the
 /// points below it with their least ends, and the least bound that serves at every point.
 ///
-/// It meets every condition but that on deadlines, and no certificate with numbers up to the horizon
+/// It meets every condition but that on deadlines, and no certificate with a point in each entry
 /// that meets these has a smaller window or bound.
 pub fn analyse<P: Policy, M: Preemption, S: Supply>(
     alloc: Global,
@@ -83,7 +82,7 @@ pub fn analyse<P: Policy, M: Preemption, S: Supply>(
     ensures meets { IfOk result (λ cert. failed_of P.meaning M.cuts (S.sbf supply.now) sheet.now false cert ≡ None) }
     ensures within { IfOk result IsWithinGrammar }
     ensures up_to { IfOk result (IsUpTo horizon) }
-    ensures least { IfOk result (NoneSmaller P.meaning M.cuts (S.sbf supply.now) sheet.now horizon) }
+    ensures least { IfOk result (NoneSmaller P.meaning M.cuts (S.sbf supply.now) sheet.now) }
     ensures cause { IfErr result (HasCause P.meaning M.cuts (S.sbf supply.now) sheet.now horizon) }
     ensures exact { IsBestAnswer P.meaning M.cuts (S.sbf supply.now) sheet.now horizon result }
     ensures none { IfErr result (NoneWhereNoBound P.meaning M.cuts (S.sbf supply.now) sheet.now horizon) }

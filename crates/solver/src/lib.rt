@@ -4,9 +4,11 @@
 mod analysis;
 mod entries;
 mod laws;
+mod meaning;
 mod searches;
 
 pub use analysis::{AnalyseRefusal, analyse};
+pub use meaning::analysis_has_one_answer;
 pub use searches::{least_bound, least_end, least_window};
 
 #[cfg(test)]

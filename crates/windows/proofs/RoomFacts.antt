@@ -1,4 +1,4 @@
-use Rattle.std.proofs.Common.{◌≡◌, ℕ, zero, suc, ◌+◌, ◌-◌, ◌<◌, ◌≤◌, ◌⊎◌, Bool, true, false, List, length, get_or, min, sym, ap, subst, inl, inr, arith, leb}
+use Rattle.std.proofs.Common.{◌≡◌, ℕ, zero, suc, ◌+◌, ◌-◌, ◌<◌, ◌≤◌, ◌⊎◌, false, List, length, get_or, min, sym, ap, subst, inl, inr, arith, leb}
 use Rattle.std.proofs.lemmas.Bool.{cases_lt, lt-leb, le-leb}
 use Rattle.lists.proofs.FirstFacts.{all_from, all_broken}
 use Rattle.curve.specs.declared.prefix.Step.{Step}
@@ -6,24 +6,11 @@ use Rattle.curve.specs.CurveValue.{Curve}
 use Rattle.curve.specs.Curves.{alpha_of}
 use Rattle.curve.specs.Validity.{IsCurve}
 use Rattle.curve.proofs.CurveFacts.{alpha_mono}
-use Rattle.simulated_run.specs.Searches.{greatest_to}
+use Rattle.simulated_run.proofs.SearchFacts.{greatest_is}
 use Rattle.windows.specs.Arrivals.{arrived_in, admits_in, allowance_in, IsPast}
 use Rattle.windows.specs.Steps.{step_at, IsLastStep}
 use Rattle.windows.proofs.ArrivalFacts.{arrived_least, arrived_most, arrived_split}
 use Rattle.windows.proofs.StepFacts.{alpha_is, alpha_more, first_step}
-
--- the greatest number that passes
-pub greatest_is : (test : ℕ → Bool) (g n : ℕ) → g ≤ n → ((g ≡ 0) ⊎ (test g ≡ true)) → ((k : ℕ) → g < k → k ≤ n → test k ≡ false) → greatest_to test n ≡ g
-greatest_is test g zero h here above = omega arith
-greatest_is test g (suc n) h here above = elim (cases_lt g (suc n)) [
-  | inl c ↦ rw (above (suc n) c (omega arith)) (greatest_is test g n (omega arith) here (λ k a b. above k a (omega arith)))
-  | inr c ↦
-      let e : g ≡ suc n = omega arith in
-      elim here [
-        | inl z ↦ absurd (omega arith)
-        | inr t ↦ let u : test (suc n) ≡ true = subst (λ w. test w ≡ true) e t in rw u (sym e)
-      ]
-]
 
 -- some window that ends with t has room for no more than this
 abbrev pub IsTight : Curve → List ℕ → ℕ → ℕ → Type 0

@@ -1,6 +1,7 @@
 //! The windows that decide whether arrivals keep to a curve, and ticks to a promise.
 //!
-//! Past its horizon a curve or a promise repeats, so that windows of at most one horizon decide.
+//! Of arrivals, windows from one arrival of a task to another decide; of supply, those whose length
+//! is a promised time. Past its horizon a curve or a promise repeats.
 #![tactic(auto)]
 
 mod crowds;

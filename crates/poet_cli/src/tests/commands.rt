@@ -84,6 +84,7 @@ fn assert_rows(rt: &impl Abort, alloc: Global, rows: &[Row]) -> Result<(), Alloc
 #[test]
 fn simulated_runs(rt: HostRuntime) -> Result<(), Fail> {
     let rows = [
+        done("simulate s dense 8", ONE_TASK, "", PERIODIC_RUN),
         done("simulate s dense 12", NEVER_PREEMPTED, "", DENSE_RUN),
         done(
             "simulate s seed 7 20",
@@ -144,6 +145,18 @@ fn audited_runs(rt: HostRuntime) -> Result<(), Fail> {
     let rows = [
         done(
             "audit s c",
+            ONE_TASK,
+            PERIODIC_RUN,
+            "compliant\ntask a jobs 2 done 2 worst 2\n",
+        ),
+        no(
+            "audit s c",
+            ONE_TASK,
+            "poet-run 1\njobs 2 ticks 8\nj 0 0 2\nj 0 4 2\nrun 0 2\nidle 3\nrun 1 2\nidle 1\nend\n",
+            "broken curve job 1 tick 4\n",
+        ),
+        done(
+            "audit s c",
             NEVER_PREEMPTED,
             DENSE_RUN,
             "compliant\ntask a jobs 3 done 3 worst 1\ntask b jobs 2 done 2 worst 3\n",
@@ -195,6 +208,18 @@ fn audited_runs(rt: HostRuntime) -> Result<(), Fail> {
 #[test]
 fn reports(rt: HostRuntime) -> Result<(), Fail> {
     let rows = [
+        done(
+            "report s c text",
+            ONE_TASK,
+            ONE_TASK_CERT,
+            "task                   cost   deadline      bound     window  points result use\na                         2          5          2          2       1 met    ########............\ntasks 1 missed 0\n",
+        ),
+        done(
+            "report s c json",
+            ONE_TASK,
+            ONE_TASK_CERT,
+            "{\"missed\":0,\"policy\":\"fp\",\"tasks\":[{\"bound\":2,\"cost\":2,\"deadline\":5,\"met\":true,\"name\":\"a\",\"points\":1,\"window\":2}]}\n",
+        ),
         done(
             "report s c text",
             TWO_TASKS,

@@ -66,6 +66,47 @@ fn failing_files(rt: HostRuntime) -> Result<(), Fail> {
 }
 
 #[test]
+fn failing_files_of_the_other_commands(rt: HostRuntime) -> Result<(), Fail> {
+    let alloc = rt.alloc();
+    let analyse: &[&str] = &["analyse", "s", "100"];
+    let simulate: &[&str] = &["simulate", "s", "dense", "3"];
+    let audit: &[&str] = &["audit", "s", "c"];
+    let report: &[&str] = &["report", "s", "c", "text"];
+    let exercise: &[&str] = &["exercise", "1", "1"];
+    // The failing call of the shelf, and the failing write of `out`.
+    let rows: [(&[&str], u64, u64, u8, &str); 16] = [
+        (analyse, 0, 99, 3, "read failed: sheet\n"),
+        (analyse, 1, 99, 3, "read failed: sheet\n"),
+        (analyse, 99, 0, 4, "write failed\n"),
+        (simulate, 0, 99, 3, "read failed: sheet\n"),
+        (simulate, 1, 99, 3, "read failed: sheet\n"),
+        (simulate, 99, 0, 4, "write failed\n"),
+        (audit, 0, 99, 3, "read failed: sheet\n"),
+        (audit, 1, 99, 3, "read failed: sheet\n"),
+        (audit, 3, 99, 3, "read failed: run\n"),
+        (audit, 4, 99, 3, "read failed: run\n"),
+        (report, 0, 99, 3, "read failed: sheet\n"),
+        (report, 1, 99, 3, "read failed: sheet\n"),
+        (report, 3, 99, 3, "read failed: certificate\n"),
+        (report, 4, 99, 3, "read failed: certificate\n"),
+        (report, 99, 0, 4, "write failed\n"),
+        (exercise, 99, 0, 4, "write failed\n"),
+    ];
+    for (i, (words, call, write, status, line)) in rows.iter().enumerate() {
+        let words = list(alloc, words)?;
+        let (sheet, other) = (ONE_TASK.as_bytes(), ONE_TASK_CERT.as_bytes());
+        let mut shelf = shelf(alloc, sheet, other, one(alloc, *call)?)?;
+        let mut out = MemSink::new(alloc, one(alloc, *write)?, 9, 999)?;
+        let mut err = MemSink::new(alloc, Vec::new(alloc), 9, 99)?;
+        let found = poet_run(alloc, &words, &mut shelf, &mut out, &mut err);
+        assert_eq!(rt; found, *status, "row {i}");
+        assert_eq!(rt; out.taken(), b"".as_slice(), "row {i}");
+        assert_eq!(rt; err.taken(), line.as_bytes(), "row {i}");
+    }
+    Ok(())
+}
+
+#[test]
 fn a_silent_err_changes_no_status(rt: HostRuntime) -> Result<(), Fail> {
     let alloc = rt.alloc();
     let mut shelf = shelf(alloc, b"", b"", Vec::new(alloc))?;
@@ -117,9 +158,25 @@ fn a_certificate_past_its_limit(rt: HostRuntime) -> Result<(), Fail> {
     let words = list(alloc, &["check", "s", "c"])?;
     let found = poet_run(alloc, &words, &mut shelf, &mut out, &mut err);
     assert_eq!(rt; found, 7);
+    assert_eq!(rt; out.taken(), b"".as_slice());
     assert_eq!(rt;
         err.taken(),
         b"limit: certificate is longer than 67108864 bytes\n".as_slice()
     );
+    Ok(())
+}
+
+#[test]
+fn a_sheet_that_is_no_text(rt: HostRuntime) -> Result<(), Fail> {
+    let alloc = rt.alloc();
+    let sheet = [0xff];
+    let mut shelf: MemShelf = shelf(alloc, &sheet, ONE_TASK_CERT.as_bytes(), Vec::new(alloc))?;
+    let mut out = MemSink::new(alloc, Vec::new(alloc), 99, 99)?;
+    let mut err = MemSink::new(alloc, Vec::new(alloc), 99, 99)?;
+    let words = list(alloc, &["check", "s", "c"])?;
+    let found = poet_run(alloc, &words, &mut shelf, &mut out, &mut err);
+    assert_eq!(rt; found, 5);
+    assert_eq!(rt; out.taken(), b"".as_slice());
+    assert_eq!(rt; err.taken(), b"sheet: not a TOML document\n".as_slice());
     Ok(())
 }

@@ -1,5 +1,5 @@
 //! Sheets at their limits, and a sheet that is printed and read again.
-use super::files::EIGHT_TASKS;
+use super::files::{CROWD, EIGHT_TASKS};
 use super::{list, shelf};
 use crate::top::poet_run;
 use poet_io::MemSink;
@@ -15,7 +15,7 @@ fn equal_tasks(alloc: Global, count: u32) -> Result<String, AllocError> {
     for i in 0..count {
         write!(
             text,
-            "[[task]]\nname = \"t{i}\"\ncost = 1\ndeadline = 512\n"
+            "\n[[task]]\nname = \"t{i}\"\ncost = 1\ndeadline = 512\n"
         )?;
         text.push_str("priority = 1\nperiod = 512\n")?;
     }
@@ -43,7 +43,7 @@ fn equal_lines(alloc: Global, count: u32) -> Result<String, AllocError> {
 
 /// A task with so many segments of one tick.
 fn segmented_task(alloc: Global, count: u32) -> Result<String, AllocError> {
-    let mut text = String::from_str(alloc, "policy = \"fp\"\n[[task]]\nname = \"a\"\n")?;
+    let mut text = String::from_str(alloc, "policy = \"fp\"\n\n[[task]]\nname = \"a\"\n")?;
     write!(text, "cost = {count}\ndeadline = 5000\npriority = 1\n")?;
     text.push_str("period = 10000\npreemption = { fixed = [1")?;
     for _ in 1..count {
@@ -101,6 +101,31 @@ fn as_many_segments_as_there_may_be(rt: HostRuntime) -> Result<(), Fail> {
     let more = segmented_task(alloc, 1001)?;
     let line = "sheet: preemption out of range in task 0\n";
     assert_check(&rt, alloc, (more.as_str(), certificate), 5, ("", line))?;
+    Ok(())
+}
+
+/// The run of two ticks at each of which 10,000 jobs arrive.
+fn crowded_run(alloc: Global) -> Result<String, AllocError> {
+    let mut text = String::from_str(alloc, "poet-run 1\njobs 20000 ticks 2\n")?;
+    for k in 0..20_000 {
+        let arrival = k / 10_000;
+        write!(text, "j 0 {arrival} 1\n")?;
+    }
+    text.push_str("run 0 1\nrun 1 1\nend\n")?;
+    Ok(text)
+}
+
+#[test]
+fn as_many_jobs_as_there_may_be(rt: HostRuntime) -> Result<(), Fail> {
+    let alloc = rt.alloc();
+    let words = list(alloc, &["simulate", "s", "dense", "2"])?;
+    let mut shelf = shelf(alloc, CROWD.as_bytes(), b"".as_slice(), Vec::new(alloc))?;
+    let mut out = MemSink::new(alloc, Vec::new(alloc), 65_536, 262_144)?;
+    let mut err = MemSink::new(alloc, Vec::new(alloc), 99, 99)?;
+    let found = poet_run(alloc, &words, &mut shelf, &mut out, &mut err);
+    assert_eq!(rt; found, 0);
+    assert_eq!(rt; out.taken(), crowded_run(alloc)?.as_bytes());
+    assert_eq!(rt; err.taken(), b"".as_slice());
     Ok(())
 }
 

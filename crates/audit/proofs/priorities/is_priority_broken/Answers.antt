@@ -7,8 +7,8 @@ use Rattle.audit.proofs.ReadFacts.{job_read, cut_read}
 use Rattle.audit.proofs.WaitFacts.{broken_from, broken_to}
 use Rattle.audit.proofs.priorities.is_priority_broken.Goals as goal
 
-pub returns-then-cuttable-clause-broken : goal.returns-then-cuttable-clause-broken
-returns-then-cuttable-clause-broken g c =
+pub returns-then-can_cut_job-clause-broken : goal.returns-then-can_cut_job-clause-broken
+returns-then-can_cut_job-clause-broken g c =
     let p = g.P.Policy.meaning in
     let m = g.M.Preemption.cuts in
     let sheet = c.args.sheet.now in
@@ -20,7 +20,7 @@ returns-then-cuttable-clause-broken g c =
     let job : c.index-as_slice-k.result ≡ job_at run k = job_read run c.as_slice-2.result.now k c.index-as_slice-k.result listed c.as_slice-2.ensures c.index-as_slice-k.is in
     let counted = c.requires.progress.counted in
     let service : c.index.result.now ≡ service_of run k t = get_or_read c.args.progress.now.served.items k c.index.result.now (omega (arith, counted.count, listed)) c.index.ensures 0 ∙ counted.each k listed in
-    let cut = cut_read m sheet run t k c.index.result.now c.task.result.now c.index-as_slice-k.result c.cuttable.result c.cuttable.ensures c.task.ensures.task job service ∙ c.if-cuttable.true in
+    let cut = cut_read m sheet run t k c.index.result.now c.can_cut_job.result c.can_cut_job.ensures service ∙ c.if-can_cut_job.true in
     let key : c.key.result ≡ p.key sheet (job_at run k) = c.key.ensures ∙ ap (λ (j : Job). p.key sheet j) job in (
       (λ over. broken_from p m sheet run t k c.key.result runs cut key (c.is_overtaken.ensures.overtaken.0 over)),
       (λ w. c.is_overtaken.ensures.overtaken.1 (broken_to p m sheet run t k c.key.result runs key w)),

@@ -1,5 +1,4 @@
-use Rattle.std.proofs.Common.{rules, ◌≡◌, ◌<◌, ℕ, List, ◌++◌, length, IsErr, ◌∙◌, ap, sym, append_assoc, arith}
-use Rattle.poet_io.specs.Sinks.{Wrote}
+use Rattle.std.proofs.Common.{rules, ◌<◌, ℕ, List, ◌++◌, length, IsErr, ◌∙◌, ap, sym, append_assoc, arith}
 use Rattle.poet_io.proofs.Writing.{appended_more}
 use Rattle.poet_cli.proofs.LineFacts.{next_fails, bounds_drop}
 use Rattle.poet_cli.proofs.printing.write_bounds.Goals as goal

@@ -1,5 +1,5 @@
 use Rattle.std.proofs.lemmas.Result.{IfOk-weaker, IfErr-weaker}
-use Rattle.solver.proofs.Theorems.{best_meets, best_within, best_up_to, none_smaller, none_where}
+use Rattle.solver.proofs.Theorems.{best_meets, best_within, best_up_to, none_smaller, none_where, best_answer}
 use Rattle.solver.proofs.analysis.analyse.Goals as goal
 
 pub returns-clause-meets : goal.returns-clause-meets
@@ -16,3 +16,6 @@ returns-clause-least g c = IfOk-weaker _ _ _ (none_smaller _ _ _ _ _ c.laws.ensu
 
 pub returns-clause-none : goal.returns-clause-none
 returns-clause-none g c = IfErr-weaker _ _ _ (none_where _ _ _ _ _) c.best_cert.ensures.cause
+
+pub returns-clause-exact : goal.returns-clause-exact
+returns-clause-exact g c = best_answer _ _ _ _ _ c.laws.ensures c.best_cert.result c.best_cert.ensures.best c.best_cert.ensures.cause

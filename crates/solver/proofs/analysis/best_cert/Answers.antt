@@ -1,6 +1,6 @@
 use Rattle.std.proofs.Common.{ℕ, arith, ap, length}
 use Rattle.solver.specs.Points.{points_below}
-use Rattle.solver.proofs.Listed.{entries_none, entries_more, all_entries, none_answer, many_answer, ok_answer}
+use Rattle.solver.proofs.Listed.{entries_none, entries_more, all_entries}
 use Rattle.solver.proofs.analysis.best_cert.Goals as goal
 
 pub loop-i-init : goal.loop-i-init
@@ -9,18 +9,8 @@ loop-i-init g c = rw c.new-entries.ensures.items (entries_none _ _ _ _ _)
 pub loop-i-preserved : goal.loop-i-preserved
 loop-i-preserved g c =
     rw c.in-Ok-push.ensures.items
-    (entries_more _ _ _ _ _ c.laws.ensures _ _ _ _ c.in-Ok.entry (omega arith) c.loop-i.invariant (omega (arith, c.in-Ok.ensures.window, c.in-Some.ensures.0)) c.in-Ok.ensures.best
+    (entries_more _ _ _ _ _ _ _ _ _ c.in-Ok.entry c.loop-i.invariant (omega (arith, c.in-Ok.ensures.window, c.in-Some.ensures.0)) c.in-Ok.ensures.best
     (omega (arith, c.in-Some-count_points.ensures.0, ap (λ (w : ℕ). length (points_below g.P.Policy.meaning c.args.sheet.now c.loop-i.i w)) c.in-Ok.ensures.window)) c.in-Some-count_points.ensures.1)
 
 pub returns-clause-best : goal.returns-clause-best
 returns-clause-best g c = rw c.new.ensures (all_entries _ _ _ _ _ c.loop-i.i _ _ (omega arith) c.loop-i.invariant)
-
-pub returns-in_default-clause-exact : goal.returns-in_default-clause-exact
-returns-in_default-clause-exact g c = none_answer _ _ _ _ _ c.loop-i.i _ _ (omega arith) c.loop-i.invariant c.in_default.ensures
-
-pub returns-in_default-count_points-clause-exact :
-    goal.returns-in_default-count_points-clause-exact
-returns-in_default-count_points-clause-exact g c = many_answer _ _ _ _ _ c.loop-i.i _ c.in-Some.window _ (omega arith) c.loop-i.invariant c.in-Some.ensures.0 c.in-Some.ensures.1 c.in_default-count_points.ensures
-
-pub returns-clause-exact : goal.returns-clause-exact
-returns-clause-exact g c = rw c.new.ensures (ok_answer _ _ _ _ _ c.loop-i.i _ _ (omega arith) c.loop-i.invariant)

@@ -1,0 +1,144 @@
+-- There is one answer at most, whatever the sheet.
+use Rattle.std.proofs.Common.{◌≡◌, ℕ, zero, suc, ◌<◌, ◌≤◌, List, [], ◌∷◌, map, length, Result, Ok, Err, refl, ap, sym, ◌∙◌, subst, arith, inl, inr}
+use Rattle.std.specs.List.{AllByRecursion}
+use Rattle.std.proofs.lemmas.Bool.{cases_lt, cases_order}
+use Rattle.std.proofs.lemmas.List.{ext_get_or, length-map}
+use Rattle.lists.specs.Searches.{IsLeast}
+use Rattle.task_sheet.specs.SheetParts.{SheetParts}
+use Rattle.policy.specs.PolicyMeaning.{PolicyMeaning}
+use Rattle.preemption.specs.CutMeaning.{CutMeaning}
+use Rattle.certificate.specs.declared.cert.Entry.{Entry}
+use Rattle.certificate.specs.declared.cert.Cert.{Cert}
+use Rattle.abstract_rta.specs.Meeting.{IsWindow, MeetsEnd}
+use Rattle.conditions.specs.Conditions.{no_entry}
+use Rattle.solver.specs.declared.analysis.AnalyseRefusal.{AnalyseRefusal}
+use Rattle.solver.specs.declared.analysis.AnalyseRefusal.TheVariants.{NoBound, Points, Memory}
+use Rattle.solver.specs.Points.{points_below}
+use Rattle.solver.specs.Best.{IsBestEntry, MeetsEach, nth_entry, AreBest, points_to, IsBest, HaveEntries, HasNoBound, HasManyPoints}
+use Rattle.solver.specs.Answer.{IsAnswer}
+use Rattle.solver.proofs.Unique.{same_least}
+
+abbrev entry_of : ℕ → ℕ → List (ℕ × ℕ) → Entry
+entry_of window bound points = record { window = window; bound = bound; points = points }
+
+abbrev cert_of : List Entry → Cert
+cert_of entries = record { entries = entries }
+
+entry_same : (w v b c : ℕ) (qs rs : List (ℕ × ℕ)) → w ≡ v → b ≡ c → qs ≡ rs → entry_of w b qs ≡ entry_of v c rs
+entry_same w v b c qs rs e f g = rw (e, f, g) refl
+
+abbrev pair_of : ℕ → ℕ → ℕ × ℕ
+pair_of a x = (a, x)
+
+pair_same : (a b x y : ℕ) → a ≡ b → x ≡ y → pair_of a x ≡ pair_of b y
+pair_same a b x y e f = rw (e, f) refl
+
+module _ (p : PolicyMeaning) (m : CutMeaning) (sbf : ℕ → ℕ) (sheet : SheetParts) where
+  same_points : (i : ℕ) (qs rs : List (ℕ × ℕ)) → map (λ q. q.0) qs ≡ map (λ q. q.0) rs → AllByRecursion (λ q. IsLeast (MeetsEnd p m sbf sheet i q.0) q.1) qs → AllByRecursion (λ q. IsLeast (MeetsEnd p m sbf sheet i q.0) q.1) rs → qs ≡ rs
+  same_points i [] [] e a b = refl
+  same_points i [] (r ∷ rs) e a b = cc
+  same_points i (q ∷ qs) [] e a b = cc
+  same_points i (q ∷ qs) (r ∷ rs) e a b =
+      let offset : q.0 ≡ r.0 = cc in
+      let rest : map (λ s. s.0) qs ≡ map (λ s. s.0) rs = cc in
+      let end : q.1 ≡ r.1 = same_least (MeetsEnd p m sbf sheet i q.0) q.1 r.1 a.0 (subst (λ k. IsLeast (MeetsEnd p m sbf sheet i k) r.1) (sym offset) b.0) in
+      let first : q ≡ r = pair_same q.0 r.0 q.1 r.1 offset end in
+      let others : qs ≡ rs = same_points i qs rs rest a.1 b.1 in
+      cc
+
+  -- a task has one best entry
+  same_entry : (i : ℕ) (e f : Entry) → IsBestEntry p m sbf sheet i e → IsBestEntry p m sbf sheet i f → e ≡ f
+  same_entry i e f a b =
+      let window : e.window ≡ f.window = same_least _ _ _ a.window b.window in
+      let points : e.points ≡ f.points = same_points i e.points f.points (a.offsets ∙ ap (points_below p sheet i) window ∙ sym b.offsets) a.ends b.ends in
+      let bound : e.bound ≡ f.bound = same_least (MeetsEach p m sbf sheet i e.points) e.bound f.bound a.bound (subst (λ qs. IsLeast (MeetsEach p m sbf sheet i qs) f.bound) (sym points) b.bound) in
+      entry_same e.window f.window e.bound f.bound e.points f.points window bound points
+
+points_rise : (entries : List Entry) (n m : ℕ) → n ≤ m → points_to entries n ≤ points_to entries m
+points_rise entries n zero le = let e : n ≡ 0 = omega arith in omega (arith, ap (points_to entries) e)
+points_rise entries n (suc m) le = elim (cases_lt m n) [
+  | inl c ↦ let e : n ≡ suc m = omega arith in omega (arith, ap (points_to entries) e)
+  | inr c ↦ omega (arith, points_rise entries n m c)
+]
+
+module _ (p : PolicyMeaning) (m : CutMeaning) (sbf : ℕ → ℕ) (sheet : SheetParts) (horizon : ℕ) where
+  same_nth : (es fs : List Entry) (k : ℕ) → AreBest p m sbf sheet horizon es → AreBest p m sbf sheet horizon fs → k < length es → k < length fs → nth_entry es k ≡ nth_entry fs k
+  same_nth es fs k a b l r = same_entry p m sbf sheet k (nth_entry es k) (nth_entry fs k) (a k l).1 (b k r).1
+
+  same_entries : (es fs : List Entry) → AreBest p m sbf sheet horizon es → AreBest p m sbf sheet horizon fs → length es ≡ length fs → es ≡ fs
+  same_entries es fs a b e = ext_get_or no_entry es fs e (λ k l. same_nth es fs k a b l (omega (arith, e)))
+
+  same_count : (es fs : List Entry) (n : ℕ) → AreBest p m sbf sheet horizon es → AreBest p m sbf sheet horizon fs → n ≤ length es → n ≤ length fs → points_to es n ≡ points_to fs n
+  same_count es fs zero a b l r = refl
+  same_count es fs (suc n) a b l r = omega (arith, same_count es fs n a b (omega arith) (omega arith), ap (λ (e : Entry). length e.points) (same_nth es fs n a b (omega arith) (omega arith)))
+
+  -- the best entries of the first i tasks, with no more points than are allowed
+  record HaveFirst (i : ℕ) (entries : List Entry) : Type 0 where
+    pub count : length entries ≡ i
+    pub best : AreBest p m sbf sheet horizon entries
+    pub few : points_to entries i ≤ 1000000
+
+  -- no such entries go on past task i
+  abbrev Stops : ℕ → Type 0
+  Stops i = (j : ℕ) (entries : List Entry) → HaveFirst j entries → i < j → ⊥
+
+  first_of_before : (i : ℕ) (entries : List Entry) → HaveEntries p m sbf sheet horizon i entries → HaveFirst i entries
+  first_of_before i entries h = record { count = h.count; best = h.best; few = h.few }
+
+  first_of_best : (cert : Cert) → IsBest p m sbf sheet horizon cert → HaveFirst (length sheet.tasks) cert.entries
+  first_of_best cert h = record { count = h.count; best = h.best; few = h.few }
+
+  no_bound_stops : (i : ℕ) → HasNoBound p m sbf sheet horizon i → Stops i
+  no_bound_stops i h j entries have lt =
+      let own = have.best i (omega (arith, have.count)) in
+      h.none (nth_entry entries i).window own.0 own.1.window.holds
+
+  many_stops : (i : ℕ) → HasManyPoints p m sbf sheet horizon i → Stops i
+  many_stops i h j entries have lt =
+      let own = have.best i (omega (arith, have.count)) in
+      let e : Entry = nth_entry entries i in
+      let window : e.window ≡ h.window = same_least _ _ _ own.1.window h.least in
+      let points : length e.points ≡ length (points_below p sheet i h.window) = omega (arith, ap length own.1.offsets, length-map e.points (λ (q : ℕ × ℕ). q.0), ap (λ (w : ℕ). length (points_below p sheet i w)) window) in
+      omega (arith, points, h.many, have.few, points_rise entries (suc i) j lt, same_count entries h.entries i have.best h.before.best (omega (arith, have.count)) (omega (arith, h.before.count)))
+
+  same_place : (i j : ℕ) (es fs : List Entry) → HaveFirst i es → HaveFirst j fs → Stops i → Stops j → i ≡ j
+  same_place i j es fs a b stop_i stop_j = elim (cases_order i j) [
+    | inl e ↦ e
+    | inr (inl l) ↦ absurd (stop_i j fs b l)
+    | inr (inr l) ↦ absurd (stop_j i es a l)
+  ]
+
+  no_bound_place : (i j : ℕ) → HasNoBound p m sbf sheet horizon i → HasNoBound p m sbf sheet horizon j → i ≡ j
+  no_bound_place i j a b = same_place i j a.before.0 b.before.0 (first_of_before i _ a.before.1) (first_of_before j _ b.before.1) (no_bound_stops i a) (no_bound_stops j b)
+
+  many_place : (i j : ℕ) → HasManyPoints p m sbf sheet horizon i → HasManyPoints p m sbf sheet horizon j → i ≡ j
+  many_place i j a b = same_place i j a.entries b.entries (first_of_before i _ a.before) (first_of_before j _ b.before) (many_stops i a) (many_stops j b)
+
+  one_cause : (i j : ℕ) → HasNoBound p m sbf sheet horizon i → HasManyPoints p m sbf sheet horizon j → ⊥
+  one_cause i j a b =
+      let e : j ≡ i = sym (same_place i j a.before.0 b.entries (first_of_before i _ a.before.1) (first_of_before j _ b.before) (no_bound_stops i a) (many_stops j b)) in
+      a.none b.window b.within (subst (λ k. IsWindow p m sbf sheet k b.window) e b.least.holds)
+
+  best_has_bounds : (cert : Cert) (i : ℕ) → IsBest p m sbf sheet horizon cert → HasNoBound p m sbf sheet horizon i → ⊥
+  best_has_bounds cert i a b = no_bound_stops i b (length sheet.tasks) cert.entries (first_of_best cert a) b.before.1.task
+
+  best_has_few : (cert : Cert) (i : ℕ) → IsBest p m sbf sheet horizon cert → HasManyPoints p m sbf sheet horizon i → ⊥
+  best_has_few cert i a b = many_stops i b (length sheet.tasks) cert.entries (first_of_best cert a) b.before.task
+
+  same_best : (c d : Cert) → IsBest p m sbf sheet horizon c → IsBest p m sbf sheet horizon d → c ≡ d
+  same_best c d a b = ap cert_of (same_entries c.entries d.entries a.best b.best (omega (arith, a.count, b.count)))
+
+  pub answers_same : (r s : Result Cert AnalyseRefusal) → IsAnswer p m sbf sheet horizon r → IsAnswer p m sbf sheet horizon s → r ≡ s
+  answers_same (Ok c) (Ok d) a b = ap (λ (x : Cert). Ok x) (same_best c d a b)
+  answers_same (Ok c) (Err (NoBound i)) a b = absurd (best_has_bounds c i a b)
+  answers_same (Ok c) (Err (Points i)) a b = absurd (best_has_few c i a b)
+  answers_same (Ok c) (Err Memory) a b = absurd b
+  answers_same (Err (NoBound i)) (Ok d) a b = absurd (best_has_bounds d i b a)
+  answers_same (Err (NoBound i)) (Err (NoBound j)) a b = ap (λ (k : ℕ). Err (NoBound k)) (no_bound_place i j a b)
+  answers_same (Err (NoBound i)) (Err (Points j)) a b = absurd (one_cause i j a b)
+  answers_same (Err (NoBound i)) (Err Memory) a b = absurd b
+  answers_same (Err (Points i)) (Ok d) a b = absurd (best_has_few d i b a)
+  answers_same (Err (Points i)) (Err (NoBound j)) a b = absurd (one_cause j i b a)
+  answers_same (Err (Points i)) (Err (Points j)) a b = ap (λ (k : ℕ). Err (Points k)) (many_place i j a b)
+  answers_same (Err (Points i)) (Err Memory) a b = absurd b
+  answers_same (Err Memory) s a b = absurd a

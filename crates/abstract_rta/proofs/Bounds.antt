@@ -8,10 +8,10 @@ use Rattle.preemption.specs.CutLaws.{IsLawfulCut}
 use Rattle.preemption.specs.CutMeaning.{CutMeaning}
 use Rattle.run_model.specs.Runs.{job_at, service_of, IsDone}
 use Rattle.schedule_laws.specs.Bounded.{IsBounded}
+use Rattle.demand.specs.Meeting.{IsWindow, MeetsAt}
 use Rattle.busy_window.specs.Busy.{IsQuiet}
 use Rattle.busy_window.proofs.Quiet.{last_quiet}
 use Rattle.busy_window.proofs.Setting.{Setting, setting_of, of_sheet}
-use Rattle.abstract_rta.specs.Meeting.{IsWindow, MeetsAt}
 use Rattle.abstract_rta.proofs.Classes.{of_class, class_short}
 use Rattle.abstract_rta.proofs.Targets.{urgent, in_time}
 

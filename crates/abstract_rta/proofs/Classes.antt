@@ -6,11 +6,11 @@ use Rattle.task_sheet.specs.Sheets.{task_at}
 use Rattle.run_model.specs.Runs.{job_at, service_of}
 use Rattle.run_model.proofs.ServiceFacts.{service_le}
 use Rattle.demand.specs.Demand.{delay_of, class_part_of, window_need_of}
+use Rattle.demand.specs.Meeting.{IsWindow}
 use Rattle.busy_window.specs.Busy.{IsUpSet, IsQuiet, HasPending, IsBusy}
 use Rattle.busy_window.proofs.Quiet.{IsLate}
 use Rattle.busy_window.proofs.Setting.{Setting, ran, of_sheet, fit_of, segment_of, served}
 use Rattle.busy_window.proofs.Stretches.{inside_since, enough_inside}
-use Rattle.abstract_rta.specs.Meeting.{IsWindow}
 use Rattle.abstract_rta.proofs.Caps.{windowed, most_at}
 use Rattle.abstract_rta.proofs.Windows.{in_window, window_from, windows_demand, demand_gap, window_length}
 

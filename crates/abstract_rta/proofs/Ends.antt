@@ -5,9 +5,9 @@ use Rattle.task_sheet.specs.Sheets.{IsValidSheet}
 use Rattle.policy.specs.PolicyLaws.{IsLawfulPolicy}
 use Rattle.policy.specs.PolicyMeaning.{PolicyMeaning}
 use Rattle.preemption.specs.CutMeaning.{CutMeaning}
-use Rattle.abstract_rta.specs.Meeting.{MeetsEnd, MeetsBound, MeetsAt, PointsMeet}
+use Rattle.demand.specs.Meeting.{MeetsEnd, MeetsBound, MeetsAt, PointsMeet}
+use Rattle.demand.proofs.Gaps.{across}
 use Rattle.abstract_rta.specs.Bounds.{point_at, IsEndFor, HasEnds}
-use Rattle.abstract_rta.proofs.Gaps.{across}
 
 -- the end of the last point whose offset is at most a, where offsets rise; before, where there is none
 abbrev pub end_for : ℕ → List (ℕ × ℕ) → ℕ → ℕ

@@ -4,5 +4,4 @@ pub mod Caps
 pub mod Classes
 pub mod Targets
 pub mod Bounds
-pub mod Gaps
 pub mod Ends

@@ -11,11 +11,11 @@ use Rattle.run_model.specs.Runs.{job_at, tick_at, service_of}
 use Rattle.run_model.proofs.ServiceFacts.{service_le, same_job, not_off}
 use Rattle.schedule_laws.specs.Compliance.{can_cut}
 use Rattle.demand.specs.Demand.{rest_of, own_of, others_of, blocking_of, need_of, other_of}
+use Rattle.demand.specs.Meeting.{MeetsEnd, MeetsBound}
 use Rattle.busy_window.specs.Busy.{IsUpSet, IsQuiet, IsBusy}
 use Rattle.busy_window.proofs.Quiet.{IsLate}
 use Rattle.busy_window.proofs.Setting.{Setting, ran, in_order, of_sheet, fit_of, segment_of}
 use Rattle.busy_window.proofs.Stretches.{inside_since, enough_inside}
-use Rattle.abstract_rta.specs.Meeting.{MeetsEnd, MeetsBound}
 use Rattle.abstract_rta.proofs.Keys.{key_refl, key_trans}
 use Rattle.abstract_rta.proofs.Caps.{cap_window, admitted, masked, most_at}
 use Rattle.abstract_rta.proofs.Windows.{in_window, window_from, windows_demand, demand_gap, window_length}

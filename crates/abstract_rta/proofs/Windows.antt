@@ -4,7 +4,7 @@ use Rattle.std.proofs.lemmas.Bool.Decides.{nat_tests}
 use Rattle.std.proofs.Math.Nat.{mul-le-mul_left}
 use Rattle.std.proofs.Math.Seq.{take-length}
 use Rattle.lists.specs.Sums.{sum_below}
-use Rattle.lists.proofs.SumFacts.{sum_le, sum_gap, count_more}
+use Rattle.lists.proofs.SumFacts.{cond_mono, sum_le, sum_gap, count_more}
 use Rattle.curve.specs.Curves.{alpha_of}
 use Rattle.task_sheet.specs.declared.tasks.Job.{Job}
 use Rattle.task_sheet.specs.Sheets.{task_at}
@@ -13,7 +13,6 @@ use Rattle.run_model.specs.Runs.{no_job, job_at, service_of}
 use Rattle.schedule_laws.specs.Compliance.{arrives_in, arrivals_of}
 use Rattle.schedule_laws.proofs.PrefixFacts.{within_cost}
 use Rattle.busy_window.proofs.Setting.{Setting, of_sheet, fit_of, served}
-use Rattle.busy_window.proofs.Stretches.{cond_mono}
 
 -- job k arrives within the window of its task: each window begins at s, and that of task o is w o long
 abbrev pub in_window : (ℕ → ℕ) → ℕ → Run → ℕ → Bool

@@ -5,7 +5,7 @@ use Rattle.policy.specs.PolicyMeaning.{PolicyMeaning}
 use Rattle.preemption.specs.CutMeaning.{CutMeaning}
 use Rattle.preemption.specs.CutLaws.{Serves}
 use Rattle.schedule_laws.specs.Bounded.{IsBounded}
-use Rattle.abstract_rta.specs.Meeting.{IsWindow, MeetsAt, PointsMeet}
+use Rattle.demand.specs.Meeting.{IsWindow, MeetsAt, PointsMeet}
 
 -- the ends, one for each offset of the window, meet K6 to K8 there
 abbrev pub EndsMeet : PolicyMeaning → CutMeaning → (ℕ → ℕ) → SheetParts → ℕ → ℕ → ℕ → List ℕ → Type 0

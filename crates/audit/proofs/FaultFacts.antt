@@ -2,7 +2,7 @@ use Rattle.std.proofs.Common.{◌≡◌, ℕ, zero, suc, ◌+◌, ◌-◌, ◌<�
 use Rattle.std.proofs.lemmas.Bool.{cases_Bool, and_parts, and_from, both_ways, false_from_ne_true, not-true, not_from_true, not_from_false, eqb-true, eq-eqb}
 use Rattle.lists.specs.Firsts.{must}
 use Rattle.lists.specs.Searches.{IsFirstBelow}
-use Rattle.lists.proofs.FirstFacts.{none_from, none_below, first_stays, must_from, must_holds}
+use Rattle.lists.proofs.FirstFacts.{none_from, none_below, first_stays, must_from, must_holds, must_fails}
 use Rattle.lists.proofs.SumFacts.{max_at_least}
 use Rattle.task_sheet.specs.SheetParts.{SheetParts}
 use Rattle.policy.specs.PolicyMeaning.{PolicyMeaning}
@@ -19,7 +19,7 @@ use Rattle.audit.specs.declared.verdict.Rule.TheVariants as rule
 use Rattle.audit.specs.Tests.{does_fit, may_run, may_be_at, is_valid_at, is_crowded, is_short, is_idle_broken, is_segment_broken, is_priority_broken}
 use Rattle.audit.specs.Faults.{fault_at, invalid_at, last_arrival, unfit_in, invalid_in, crowded_in, short_in, idle_in, segment_in, priority_in}
 use Rattle.audit.specs.Relations.{AreFitting, AreValid, IsIdleTick, IsSegmentTick, IsPriorityTick}
-use Rattle.audit.proofs.SearchFacts.{must_fails, found_none, found_some, none_found}
+use Rattle.audit.proofs.SearchFacts.{found_none, found_some, none_found}
 use Rattle.audit.proofs.TestFacts.{fails, fit_from, fit_to, valid_from, valid_to, crowded_from, crowded_to, short_from, short_to, idle_from, idle_to, segment_from, segment_to, priority_from, priority_to}
 
 -- jobs that fit

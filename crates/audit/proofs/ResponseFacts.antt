@@ -3,7 +3,7 @@ use Rattle.std.proofs.lemmas.Bool.{cases_eq, not_from_true, not_from_false, leb-
 use Rattle.std.proofs.lemmas.List.{get_or-set_same, get_or-set_other, length-set, length-replicate, get_or-replicate}
 use Rattle.std.proofs.Math.ListN.{set}
 use Rattle.lists.specs.Firsts.{first_of, must, first_below}
-use Rattle.lists.proofs.FirstFacts.{none_from, must_from}
+use Rattle.lists.proofs.FirstFacts.{none_from, must_from, must_fails}
 use Rattle.run_model.specs.declared.run.Run.{Run}
 use Rattle.run_model.specs.declared.run.Tick.TheVariants.{Runs}
 use Rattle.run_model.specs.Runs.{job_at, tick_at, service_of, is_done}
@@ -12,7 +12,6 @@ use Rattle.run_model.proofs.ServiceFacts.{service_none, step_cases, service_le, 
 use Rattle.audit.specs.declared.verdict.Seen.{Seen}
 use Rattle.audit.specs.Responses.{since, done_before, response_of, is_of, seen_among}
 use Rattle.audit.specs.Relations.{ArePositive, AreValid, IsResponse, AreResponses, with_job}
-use Rattle.audit.proofs.SearchFacts.{must_fails}
 
 first_some : {F : Type 0} (a : Option F) (x : F) (later : Option F) → first_of (first_of a (Some x)) later ≡ first_of a (Some x)
 first_some (Some f) x later = refl

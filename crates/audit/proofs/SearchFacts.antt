@@ -1,25 +1,9 @@
-use Rattle.std.proofs.Common.{◌≡◌, ℕ, zero, suc, ◌<◌, Bool, true, false, not, Some, None, refl, inl, inr, arith}
-use Rattle.std.proofs.lemmas.Bool.{cases_Bool, and_from, both_ways, false_from_ne_true, not-true, not_from_true, not_from_false}
-use Rattle.lists.specs.Firsts.{must, first_below, all_below}
-use Rattle.lists.proofs.FirstFacts.{none_from, none_below, first_stays, must_from, must_holds}
+use Rattle.std.proofs.Common.{◌≡◌, ℕ, zero, suc, ◌<◌, Bool, true, false, not, Some, None, arith}
+use Rattle.std.proofs.lemmas.Bool.{not-true, not_from_true, not_from_false}
+use Rattle.lists.specs.Firsts.{must, first_below}
+use Rattle.lists.proofs.FirstFacts.{none_from, none_below, first_stays, must_from, must_holds, must_fails}
 use Rattle.audit.specs.declared.verdict.Rule.{Rule}
 use Rattle.audit.specs.Faults.{fault_at, found_in}
-
--- where not all pass, one does not
-pub some_broken : (p : ℕ → Bool) (n : ℕ) → all_below p n ≡ false → (k : ℕ) × (k < n) × (p k ≡ false)
-some_broken p zero h = absurd (cc)
-some_broken p (suc n) h = elim (cases_Bool (p n)) [
-  | inr f ↦ (n, omega arith, f)
-  | inl t ↦
-      let before : all_below p n ≡ false = false_from_ne_true (all_below p n) (λ a. both_ways (all_below p (suc n)) h (and_from (all_below p n) (p n) a t)) in
-      let w = some_broken p n before in
-      (w.0, omega (arith, w.1), w.2)
-]
-
--- a test that fails gives its failure
-pub must_fails : {F : Type 0} (b : Bool) (f : F) → b ≡ false → must b f ≡ Some f
-must_fails true f h = absurd (cc)
-must_fails false f h = refl
 
 pub found_none : (of : Rule) (test : ℕ → ℕ → Bool) (ticks jobs : ℕ) → ((t k : ℕ) → t < ticks → k < jobs → test t k ≡ false) → found_in of test ticks jobs ≡ None
 found_none of test ticks jobs h =

@@ -1,7 +1,7 @@
 use Rattle.std.proofs.Common.{◌≡◌, ℕ, ◌+◌, ◌-◌, ◌<◌, ◌≤◌, ◌≢◌, ◌==◌, ◌&&◌, Bool, true, false, not, length, refl, sym, ◌∙◌, ap, inl, inr, arith, ltb}
 use Rattle.std.proofs.lemmas.Bool.{cases_Bool, and_parts, and_from, both_ways, false_from_ne_true, not-true, not_from_false, leb-true, leb-false, le-leb, ltb-true, lt-ltb, eqb-true, eq-eqb}
 use Rattle.lists.specs.Firsts.{all_below}
-use Rattle.lists.proofs.FirstFacts.{all_parts, all_from, all_broken}
+use Rattle.lists.proofs.FirstFacts.{all_parts, all_from, all_broken, some_broken}
 use Rattle.curve.specs.Curves.{alpha_of}
 use Rattle.task_sheet.specs.SheetParts.{SheetParts}
 use Rattle.task_sheet.specs.Sheets.{task_at}
@@ -17,7 +17,6 @@ use Rattle.run_model.proofs.ServiceFacts.{runs_tells, runs_self}
 use Rattle.schedule_laws.specs.Compliance.{arrivals_of, can_cut, JobFits, MayRun}
 use Rattle.schedule_laws.specs.Tests.{IsValidAt, IsIdleBroken, IsSegmentBroken, IsPriorityBroken, IsShort, IsCrowded}
 use Rattle.audit.specs.Tests.{does_fit, holds_back, is_in_order, may_run, may_be_at, is_valid_at, is_within_curve, is_crowded, is_supplied, is_short, is_idle, is_idle_broken, is_segment_broken, overtakes, is_priority_broken}
-use Rattle.audit.proofs.SearchFacts.{some_broken}
 
 pub fit_from : (m : CutMeaning) (sheet : SheetParts) (run : Run) (k : ℕ) → does_fit m sheet run k ≡ true → JobFits m sheet run k
 fit_from m sheet run k h =

@@ -1,6 +1,7 @@
 use Rattle.std.proofs.Common.{◌≡◌, ℕ, zero, suc, ◌+◌, ◌-◌, ◌<◌, ◌≤◌, ◌≢◌, ◌⊎◌, Bool, true, false, cond, not, length, refl, sym, ◌∙◌, ap, subst, inl, inr, arith, add-suc, add-zero}
 use Rattle.std.proofs.lemmas.Bool.{cases_lt, cases_Bool, not-true}
-use Rattle.lists.proofs.SumFacts.{sum_le, sum_gap}
+use Rattle.lists.proofs.SumFacts.{cond_mono, sum_le, sum_gap}
+use Rattle.lists.proofs.SearchFacts.{last_up_to}
 use Rattle.task_sheet.specs.Sheets.{task_at}
 use Rattle.run_model.specs.declared.run.Tick.{Tick}
 use Rattle.run_model.specs.declared.run.Tick.TheVariants.{Off, Idle, Runs}
@@ -11,28 +12,21 @@ use Rattle.schedule_laws.proofs.PrefixFacts.{within_cost, arrived_before}
 use Rattle.busy_window.specs.Busy.{IsUpSet, IsBusy, runs_out}
 use Rattle.busy_window.proofs.Setting.{Setting, ran, of_sheet, fit_of, segment_of, served}
 
-pub cond_mono : (b : Bool) (m n : ℕ) → m ≤ n → cond b m 0 ≤ cond b n 0
-cond_mono b m n h = elim b as (λ b. cond b m 0 ≤ cond b n 0) [ true ↦ h | false ↦ omega arith ]
-
 cond_more : (b : Bool) (m n : ℕ) → b ≡ true → n ≡ suc m → cond b m 0 + 1 ≤ cond b n 0
 cond_more b m n e h = grind arith
 
 -- the last place that passes before n, which does not
 pub last_true : (test : ℕ → Bool) (n : ℕ) → test 0 ≡ true → test n ≡ false → (r : ℕ) × (r < n) × (test r ≡ true) × ((q : ℕ) → r < q → q ≤ n → test q ≡ false)
-last_true test zero h e = absurd (cc)
-last_true test (suc n) h e = elim (cases_Bool (test n)) [
-  | inl t ↦ (n, omega arith, t, (λ q a b. let i : suc n ≡ q = omega arith in subst (λ w. test w ≡ false) i e))
-  | inr f ↦
-      let r = last_true test n h f in (
-        r.0,
-        omega (arith, r.1),
-        r.2,
-        (λ q a b. elim (cases_lt q (suc n)) [
-          | inl c ↦ r.3 q a (omega arith)
-          | inr c ↦ let i : suc n ≡ q = omega arith in subst (λ w. test w ≡ false) i e
-        ]),
-      )
-]
+last_true test n h e =
+    let r = last_up_to (λ k. test k ≡ true) (λ k. test k ≡ false) (λ k. cases_Bool (test k)) h n in (
+      r.0,
+      elim (cases_lt r.0 n) [
+        | inl c ↦ c
+        | inr c ↦ absurd (let i : r.0 ≡ n = omega (arith, r.1) in let t : test n ≡ true = subst (λ w. test w ≡ true) i r.2 in cc)
+      ],
+      r.2,
+      r.3,
+    )
 
 -- a segment of a job outside the set that arrived before s blocks for at most so many ticks
 abbrev pub BlockAtMost : Setting → (ℕ → Bool) → ℕ → ℕ → Type 0

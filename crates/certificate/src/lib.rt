@@ -1,14 +1,14 @@
 //! Certificates: their one text, its writing and its reading.
 #![tactic(auto)]
 
-pub mod cert;
-pub mod laws;
-pub mod lines;
+mod cert;
+mod laws;
+mod lines;
 mod place;
-pub mod reading;
-pub mod refusal;
-pub mod step;
-pub mod writing;
+mod reading;
+mod refusal;
+mod step;
+mod writing;
 
 pub use cert::{Cert, Entry};
 pub use laws::text_has_one_reading;

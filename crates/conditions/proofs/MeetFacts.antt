@@ -8,7 +8,7 @@ use Rattle.demand.specs.Demand.{window_need_of}
 use Rattle.search_space.proofs.PointFacts.{same_means, same_true}
 use Rattle.certificate.specs.declared.cert.Entry.{Entry}
 use Rattle.certificate.specs.declared.cert.Cert.{Cert}
-use Rattle.abstract_rta.specs.Meeting.{ComesNext, KeepsGap, PointMeets, PointsMeet}
+use Rattle.demand.specs.Meeting.{ComesNext, KeepsGap, PointMeets, PointsMeet}
 use Rattle.conditions.specs.declared.failed.Cond.{Cond}
 use Rattle.conditions.specs.Conditions.{entry_at, is_in_time, comes_next, gap_failed_of, point_failed_of, points_failed_of, named, task_failed_of, failed_of}
 use Rattle.conditions.specs.Meets.{IsInTime, TaskMeets, CertMeets}

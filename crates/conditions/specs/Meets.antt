@@ -5,7 +5,7 @@ use Rattle.policy.specs.PolicyMeaning.{PolicyMeaning}
 use Rattle.preemption.specs.CutMeaning.{CutMeaning}
 use Rattle.certificate.specs.declared.cert.Entry.{Entry}
 use Rattle.certificate.specs.declared.cert.Cert.{Cert}
-use Rattle.abstract_rta.specs.Meeting.{IsWindow, PointsMeet}
+use Rattle.demand.specs.Meeting.{IsWindow, PointsMeet}
 use Rattle.conditions.specs.Conditions.{entry_at, failed_of}
 
 -- K9: where deadlines are judged, the bound is at most the deadline

@@ -4,7 +4,7 @@ use Rattle.std.proofs.lemmas.Bool.{cases_lt, cases_eq, cases_Bool, and_from, and
 use Rattle.std.proofs.lemmas.Int.{ints}
 use Rattle.std.proofs.Math.Nat.{mul-le-mul_left}
 use Rattle.lists.specs.Sums.{sum_below, max_below}
-use Rattle.lists.proofs.SumFacts.{sum_le, sum_gap, max_at_least}
+use Rattle.lists.proofs.SumFacts.{cond_mono, sum_le, sum_gap, max_at_least}
 use Rattle.curve.specs.CurveValue.{Curve}
 use Rattle.curve.specs.Validity.{IsCurve}
 use Rattle.curve.specs.Curves.{alpha_of}
@@ -62,10 +62,6 @@ unless_le : (b : Bool) (w x : ℕ) → w ≤ x → cond b 0 w ≤ cond b 0 x
 unless_le true w x h = omega arith
 unless_le false w x h = h
 
-where_le : (b : Bool) (w x : ℕ) → w ≤ x → cond b w 0 ≤ cond b x 0
-where_le true w x h = h
-where_le false w x h = omega arith
-
 swapped : (b : Bool) (w x : ℕ) → cond b 0 x ≤ cond b w x
 swapped true w x = omega arith
 swapped false w x = omega arith
@@ -88,7 +84,7 @@ pub window_need_grows : (p : PolicyMeaning) (m : CutMeaning) (sheet : SheetParts
 unfolding window_need_of
 window_need_grows p m sheet ok i k l h =
     let parts = sum_le (class_part_of p sheet i k) (class_part_of p sheet i l) (length sheet.tasks)
-    (λ o b. where_le (p.class sheet i o) _ _ (mul-le-mul_left (task_at sheet o).cost (alpha_mono (task_at sheet o).curve (ok.each o b).curve k l h))) in
+    (λ o b. cond_mono (p.class sheet i o) _ _ (mul-le-mul_left (task_at sheet o).cost (alpha_mono (task_at sheet o).curve (ok.each o b).curve k l h))) in
     omega (arith, parts)
 
 pub rising : (p : PolicyMeaning) (m : CutMeaning) (sheet : SheetParts) → IsValidSheet sheet → (i : ℕ) → IsRising p m sheet i

@@ -1,1 +1,2 @@
 pub mod DemandFacts
+pub mod Gaps

@@ -18,8 +18,8 @@ use Rattle.conditions.specs.Conditions.{no_entry, entry_at}
 use Rattle.conditions.proofs.MeetFacts.{cert_means}
 use Rattle.audit.specs.declared.verdict.Seen.{Seen}
 use Rattle.audit.specs.Responses.{since, done_before, response_of, is_of, seen_among, seen_of, seen_below}
-use Rattle.generated_sheet.specs.GeneratedSheet.{generated_sheet}
-use Rattle.generated_sheet.proofs.SheetFacts.{sheet_count, sheet_valid}
+use Rattle.exercise.specs.GeneratedSheet.{generated_sheet}
+use Rattle.exercise.proofs.SheetFacts.{sheet_count, sheet_valid}
 use Rattle.exercise.specs.Greatest.{greatest_by}
 use Rattle.exercise.specs.Exercises.{dense_run_of, exercise_of, ExerciseHolds}
 

@@ -2,7 +2,6 @@
 use Rattle.std.proofs.Common.{◌≡◌, ℕ, zero, suc, ◌+◌, ◌*◌, ◌<◌, ◌≤◌, Bool, List, [], ◌∷◌, ◌++◌, length, Ok, refl, ◌∙◌, ap, inl, inr, arith}
 use Rattle.std.proofs.lemmas.Bool.{cases_Bool}
 use Rattle.std.proofs.lemmas.List.{length-map}
-use Rattle.std.proofs.Math.ListN.{get_or-append}
 use Rattle.std.proofs.Math.Seq.{get_or-append_seam}
 use Rattle.task_sheet.specs.SheetParts.{SheetParts}
 use Rattle.policy.specs.Policies.{edf_meaning}
@@ -16,10 +15,11 @@ use Rattle.conditions.specs.Conditions.{no_entry}
 use Rattle.solver.specs.Points.{passing, points_below}
 use Rattle.solver.specs.Best.{nth_entry, points_to}
 use Rattle.solver.specs.Outcome.{least_to, or_zero, meets_end, best_points, best_of_window, first_entries, best_of}
+use Rattle.solver.proofs.Listed.{points_before}
 use Rattle.solver.proofs.Unique.{next_entry}
 use Rattle.simulated_run.proofs.GrowthFacts.{length_more}
-use Rattle.generated_sheet.specs.GeneratedSheet.{generated_sheet}
-use Rattle.generated_sheet.proofs.SheetFacts.{sheet_count}
+use Rattle.exercise.specs.GeneratedSheet.{generated_sheet}
+use Rattle.exercise.proofs.SheetFacts.{sheet_count}
 use Rattle.exercise.proofs.WindowFacts.{HasWindow, has_window}
 
 passing_most : (test : ℕ → Bool) (n from : ℕ) → length (passing test from n) ≤ n
@@ -38,10 +38,6 @@ module _ (p : PolicyMeaning) (m : CutMeaning) (sbf : ℕ → ℕ) (sheet : Sheet
   pub entry_points : length (best_of_window p m sbf sheet i window).points ≡ length (points_below p sheet i window)
   unfolding best_of_window best_points
   entry_points = length-map (points_below p sheet i window) (λ (a : ℕ). (a, or_zero (least_to (meets_end p m sbf sheet i a) window)))
-
-points_before : (entries : List Entry) (e : Entry) (n : ℕ) → n ≤ length entries → points_to (entries ++ e ∷ []) n ≡ points_to entries n
-points_before entries e zero l = refl
-points_before entries e (suc n) l = omega (arith, points_before entries e n (omega arith), ap (λ (x : Entry). length x.points) (get_or-append entries (e ∷ []) no_entry n (omega arith)))
 
 -- the points of one entry more
 points_more : (entries : List Entry) (e : Entry) (n : ℕ) → length entries ≡ n → points_to (entries ++ e ∷ []) (suc n) ≡ points_to entries n + length e.points

@@ -22,9 +22,9 @@ use Rattle.simulated_run.specs.declared.mode.Mode.{Mode}
 use Rattle.simulated_run.specs.SimulatedRun.{World, world_of, simulated_run}
 use Rattle.simulated_run.proofs.Soundness.{IsLawful}
 use Rattle.simulated_run.proofs.Stages.{begun}
-use Rattle.generated_sheet.specs.GeneratedSheet.{period_of, generated_task, generated_sheet}
-use Rattle.generated_sheet.proofs.WordFacts.{period_low}
-use Rattle.generated_sheet.proofs.SheetFacts.{sheet_count, sheet_task, sheet_valid}
+use Rattle.exercise.specs.GeneratedSheet.{period_of, generated_task, generated_sheet}
+use Rattle.exercise.proofs.WordFacts.{period_low}
+use Rattle.exercise.proofs.SheetFacts.{sheet_count, sheet_task, sheet_valid}
 use Rattle.exercise.proofs.LoadFacts.{alpha_most, task_curve}
 use Rattle.exercise.proofs.SegmentFacts.{segments_few, sum_by_most}
 

@@ -1,3 +1,6 @@
+pub mod WordFacts
+pub mod TaskFacts
+pub mod SheetFacts
 pub mod LoadFacts
 pub mod WindowFacts
 pub mod CertFacts

@@ -6,9 +6,9 @@ use Rattle.std.proofs.Math.Nat.{mul-le-mul_left, mul-le-mul_right, mul-div-le}
 use Rattle.curve.specs.Curves.{value_of, alpha_of}
 use Rattle.task_sheet.specs.declared.tasks.Task.{Task}
 use Rattle.task_sheet.specs.Sheets.{task_at}
-use Rattle.generated_sheet.specs.GeneratedSheet.{scale_of, cost_of, period_of, curve_of, generated_task, generated_sheet}
-use Rattle.generated_sheet.proofs.WordFacts.{cost_high}
-use Rattle.generated_sheet.proofs.SheetFacts.{sheet_task}
+use Rattle.exercise.specs.GeneratedSheet.{scale_of, cost_of, period_of, curve_of, generated_task, generated_sheet}
+use Rattle.exercise.proofs.WordFacts.{cost_high}
+use Rattle.exercise.proofs.SheetFacts.{sheet_task}
 
 value_most : (period t : ℕ) → value_of (curve_of period) t ≤ 1
 unfolding value_of

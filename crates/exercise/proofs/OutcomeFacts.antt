@@ -23,8 +23,8 @@ use Rattle.audit.specs.declared.verdict.Seen.{Seen}
 use Rattle.audit.specs.declared.verdict.AuditVerdict.TheVariants.{Compliant}
 use Rattle.audit.specs.Responses.{seen_below}
 use Rattle.audit.specs.Verdicts.{verdict_by}
-use Rattle.generated_sheet.specs.GeneratedSheet.{generated_sheet}
-use Rattle.generated_sheet.proofs.SheetFacts.{sheet_count}
+use Rattle.exercise.specs.GeneratedSheet.{generated_sheet}
+use Rattle.exercise.proofs.SheetFacts.{sheet_count}
 use Rattle.exercise.specs.declared.outcome.Exercise.{Exercise}
 use Rattle.exercise.specs.Exercises.{best_cert_of, dense_run_of, exercise_by, exercise_of, ExerciseHolds}
 use Rattle.exercise.specs.Laws.{Succeeds}

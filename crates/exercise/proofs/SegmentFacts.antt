@@ -7,8 +7,8 @@ use Rattle.std.proofs.lemmas.List.Sums.{sum_by-cons}
 use Rattle.lists.specs.Ranges.{is_between}
 use Rattle.task_sheet.specs.declared.tasks.Job.{Job}
 use Rattle.preemption.specs.Cuts.{each_within, all_within, has_none, segments_fit, fits}
-use Rattle.generated_sheet.specs.GeneratedSheet.{cost_of, halves, cut_by, generated_task}
-use Rattle.generated_sheet.proofs.WordFacts.{cost_high, scale_high}
+use Rattle.exercise.specs.GeneratedSheet.{cost_of, halves, cut_by, generated_task}
+use Rattle.exercise.proofs.WordFacts.{cost_high, scale_high}
 
 none_few : (segs : List ℕ) → has_none segs ≡ true → length segs ≤ 50
 none_few [] h = omega arith

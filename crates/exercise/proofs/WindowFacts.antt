@@ -12,11 +12,11 @@ use Rattle.task_sheet.specs.Sheets.{task_at}
 use Rattle.policy.specs.Policies.{edf_meaning}
 use Rattle.preemption.specs.Kinds.{per_task_meaning}
 use Rattle.demand.specs.Demand.{delay_of, class_part_of, window_need_of}
-use Rattle.abstract_rta.specs.Meeting.{IsWindow}
+use Rattle.demand.specs.Meeting.{IsWindow}
 use Rattle.conditions.specs.Conditions.{is_window}
-use Rattle.generated_sheet.specs.GeneratedSheet.{cost_of, generated_sheet}
-use Rattle.generated_sheet.proofs.WordFacts.{cost_low, cost_high, scale_high}
-use Rattle.generated_sheet.proofs.SheetFacts.{sheet_count}
+use Rattle.exercise.specs.GeneratedSheet.{cost_of, generated_sheet}
+use Rattle.exercise.proofs.WordFacts.{cost_low, cost_high, scale_high}
+use Rattle.exercise.proofs.SheetFacts.{sheet_count}
 use Rattle.exercise.proofs.LoadFacts.{asks_most}
 
 never : (b : Bool) (x : ℕ) → cond {A = ℕ} (b && false) x 0 ≡ 0

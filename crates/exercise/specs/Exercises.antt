@@ -15,7 +15,7 @@ use Rattle.simulated_run.specs.declared.mode.Mode.TheVariants.{Dense}
 use Rattle.simulated_run.specs.SimulatedRun.{world_of, simulated_run}
 use Rattle.audit.specs.declared.verdict.Seen.{Seen}
 use Rattle.audit.specs.Responses.{seen_below}
-use Rattle.generated_sheet.specs.GeneratedSheet.{generated_sheet}
+use Rattle.exercise.specs.GeneratedSheet.{generated_sheet}
 use Rattle.exercise.specs.declared.outcome.Exercise.{Exercise}
 use Rattle.exercise.specs.Greatest.{greatest_by}
 

@@ -1,3 +1,4 @@
+pub mod GeneratedSheet
 pub mod Greatest
 pub mod Exercises
 pub mod Laws

@@ -3,10 +3,12 @@
 
 mod counting;
 mod laws;
+mod making;
 mod outcome;
 mod running;
 
-pub use laws::exercise_succeeds;
+pub use laws::{exercise_succeeds, generated_is_valid};
+pub use making::make_sheet;
 pub use outcome::Exercise;
 pub use running::exercise;
 

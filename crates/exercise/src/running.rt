@@ -4,10 +4,10 @@ ghost use Rattle.exercise.specs.Exercises.{exercise_of, ExerciseHolds};
 
 use crate::counting::{count_done, count_points, greatest_bound, worst_of};
 use crate::laws::exercise_succeeds;
+use crate::making::make_sheet;
 use crate::outcome::Exercise;
 use abstract_rta::points_bound;
 use audit::{AuditVerdict, audit};
-use generated_sheet::make_sheet;
 use policy::Edf;
 use preemption::PerTask;
 use simulated_run::Mode;

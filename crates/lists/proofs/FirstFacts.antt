@@ -1,5 +1,5 @@
 use Rattle.std.proofs.Common.{◌≡◌, ℕ, zero, suc, ◌<◌, Bool, true, false, Option, Some, None, refl, sym, ◌∙◌, ap, arith, inl, inr}
-use Rattle.std.proofs.lemmas.Bool.{cases_lt, cases_Bool, both_ways, and_parts, and_from}
+use Rattle.std.proofs.lemmas.Bool.{cases_lt, cases_Bool, both_ways, and_parts, and_from, false_from_ne_true}
 use Rattle.lists.specs.Firsts.{first_of, must, first_below, all_below}
 
 -- all pass below a number where all pass below a greater one
@@ -21,6 +21,22 @@ all_broken p n k l h = elim (cases_Bool (all_below p n)) [
   | inl t ↦ absurd (both_ways (p k) h (all_parts p n k t l))
   | inr f ↦ f
 ]
+
+-- where not all pass, one does not
+pub some_broken : (p : ℕ → Bool) (n : ℕ) → all_below p n ≡ false → (k : ℕ) × (k < n) × (p k ≡ false)
+some_broken p zero h = absurd (cc)
+some_broken p (suc n) h = elim (cases_Bool (p n)) [
+  | inr f ↦ (n, omega arith, f)
+  | inl t ↦
+      let before : all_below p n ≡ false = false_from_ne_true (all_below p n) (λ a. both_ways (all_below p (suc n)) h (and_from (all_below p n) (p n) a t)) in
+      let w = some_broken p n before in
+      (w.0, omega (arith, w.1), w.2)
+]
+
+-- tests that agree below n agree on whether all pass
+pub all_same : (p q : ℕ → Bool) (n : ℕ) → ((k : ℕ) → k < n → p k ≡ q k) → all_below p n ≡ all_below q n
+all_same p q zero same = refl
+all_same p q (suc n) same = rw (all_same p q n (λ k b. same k (omega arith)), same n (omega arith)) refl
 
 pub must_holds : {F : Type 0} (b : Bool) (f : F) → must b f ≡ None → b ≡ true
 must_holds true f h = refl
@@ -61,3 +77,8 @@ first_stays f x (suc n) k l none here = elim (cases_lt k n) [
 pub must_from : {F : Type 0} (b : Bool) (f : F) → b ≡ true → must b f ≡ None
 must_from true f h = refl
 must_from false f h = cc
+
+-- a test that fails gives its failure
+pub must_fails : {F : Type 0} (b : Bool) (f : F) → b ≡ false → must b f ≡ Some f
+must_fails true f h = absurd (cc)
+must_fails false f h = refl

@@ -1,3 +1,3 @@
 pub mod SumFacts
-pub mod SearchFacts
 pub mod FirstFacts
+pub mod SearchFacts

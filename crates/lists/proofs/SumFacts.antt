@@ -1,7 +1,12 @@
-use Rattle.std.proofs.Common.{◌≡◌, ℕ, zero, suc, ◌+◌, ◌*◌, ◌<◌, ◌≤◌, ◌==◌, Bool, cond, List, length, get_or, take, count_by, refl, ap, inl, inr, arith, add-one}
+use Rattle.std.proofs.Common.{◌≡◌, ℕ, zero, suc, ◌+◌, ◌*◌, ◌<◌, ◌≤◌, ◌==◌, Bool, true, false, cond, List, length, get_or, take, count_by, refl, ap, inl, inr, arith, add-one}
 use Rattle.std.proofs.lemmas.Bool.{cases_lt, ne_eqb}
 use Rattle.std.proofs.lemmas.List.Sums.{count_by_more_yes, count_by_more_no}
 use Rattle.lists.specs.Sums.{sum_below, max_below}
+
+-- a masked term does not fall as the term grows
+pub cond_mono : (b : Bool) (m n : ℕ) → m ≤ n → cond b m 0 ≤ cond b n 0
+cond_mono true m n h = h
+cond_mono false m n h = omega arith
 
 pub sum_le : (f g : ℕ → ℕ) (n : ℕ) → ((k : ℕ) → k < n → f k ≤ g k) → sum_below f n ≤ sum_below g n
 sum_le f g zero h = omega arith

@@ -1,6 +1,6 @@
 //! Lists that contracts see as lists, and the sums and searches that the layers above share.
 #![tactic(auto)]
 
-pub mod items;
+mod items;
 
 pub use items::{Items, Text};

@@ -6,7 +6,7 @@ mod calls;
 mod file_shelf;
 mod mem_shelf;
 mod mem_sink;
-pub mod numbers;
+mod numbers;
 mod pushing;
 mod shelf;
 mod sink;

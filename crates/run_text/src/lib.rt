@@ -2,13 +2,13 @@
 #![tactic(auto)]
 
 mod draft;
-pub mod laws;
+mod laws;
 mod lines;
-pub mod reading;
-pub mod refusal;
+mod reading;
+mod refusal;
 mod stage;
 mod words;
-pub mod writing;
+mod writing;
 
 pub use laws::{stretches_expand, text_has_one_reading};
 pub use reading::read_run;

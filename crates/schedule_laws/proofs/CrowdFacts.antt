@@ -2,6 +2,7 @@ use Rattle.std.proofs.Common.{◌≡◌, ℕ, zero, suc, ◌+◌, ◌-◌, ◌<�
 use Rattle.std.proofs.lemmas.Bool.{cases_lt, cases_eq}
 use Rattle.std.proofs.lemmas.Bool.Decides.{nat_tests}
 use Rattle.std.proofs.Math.Seq.{take-length}
+use Rattle.lists.proofs.SearchFacts.{one_more}
 use Rattle.lists.proofs.SumFacts.{count_more}
 use Rattle.curve.specs.Curves.{alpha_of}
 use Rattle.curve.proofs.CurveFacts.{alpha_mono}
@@ -42,19 +43,16 @@ arrivals_none : (run : Run) (o t : ℕ) → arrivals_of run o t (t + 0) ≡ 0
 unfolding arrivals_of
 arrivals_none run o t = omega (arith, same_count (arrives_in o t (t + 0)) (λ j. false) run (λ k c. in_none o t (job_at run k)), none_passes run)
 
-more : {P : ℕ → Type 0} (n : ℕ) → ((k : ℕ) → k < n → P k) → P n → (k : ℕ) → k < suc n → P k
-more {P} n below last k h = elim (cases_lt k n) [ inl c ↦ below k c | inr c ↦ let e : n ≡ k = omega arith in subst P e last ]
-
 -- some job of task o arrives at t, or none among the first n
 arrival_or_none : (o t : ℕ) (run : Run) (n : ℕ) → ((k : ℕ) × (k < n) × ((job_at run k).task ≡ o) × ((job_at run k).arrival ≡ t)) ⊎ ((k : ℕ) → k < n → (job_at run k).task ≡ o → (job_at run k).arrival ≡ t → ⊥)
 arrival_or_none o t run zero = inr (λ k b e i. omega arith)
 arrival_or_none o t run (suc n) = elim (arrival_or_none o t run n) [
   | inl k ↦ inl (k.0, omega (arith, k.1), k.2, k.3)
   | inr none ↦ elim (cases_eq (job_at run n).task o) [
-    | inr ne ↦ inr (more n none (λ e i. ne e))
+    | inr ne ↦ inr (one_more n none (λ e i. ne e))
     | inl e ↦ elim (cases_eq (job_at run n).arrival t) [
       | inl i ↦ inl (n, omega arith, e, i)
-      | inr ne ↦ inr (more n none (λ e i. ne i))
+      | inr ne ↦ inr (one_more n none (λ e i. ne i))
     ]
   ]
 ]

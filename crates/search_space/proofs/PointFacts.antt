@@ -1,7 +1,5 @@
 use Rattle.std.proofs.Common.{◌≡◌, ℕ, zero, suc, ◌+◌, ◌-◌, ◌<◌, ◌≤◌, ◌≢◌, ◌==◌, Bool, true, false, cond, length, refl, sym, ◌∙◌, ap, subst, inl, inr, arith, eq-eqb, not, ◌||◌}
-use Rattle.std.specs.Prelude.{ℤ, pos, negsuc, ◌≤ℤ◌}
 use Rattle.std.proofs.lemmas.Bool.{cases_eq, ne_eqb, eqb-true}
-use Rattle.std.proofs.lemmas.Int.{ints}
 use Rattle.lists.proofs.FirstFacts.{all_parts, all_from}
 use Rattle.curve.specs.CurveValue.{Curve}
 use Rattle.curve.specs.Validity.{IsCurve}
@@ -14,12 +12,9 @@ use Rattle.policy.specs.declared.keys.Cap.TheVariants.{Nothing, At, All}
 use Rattle.policy.specs.Keys.{not_below_zero}
 use Rattle.policy.specs.PolicyMeaning.{PolicyMeaning}
 use Rattle.policy.specs.PolicyLaws.{IsLawfulPolicy, GrowsTo}
-use Rattle.search_space.specs.Points.{cap_count, compared_of, same_at, IsSame, is_point}
-
-pub floor_mono : (c d : ℤ) → c ≤ℤ d → not_below_zero c ≤ not_below_zero d
-floor_mono (pos a) (pos b) h = omega (arith, ints)
-floor_mono (pos a) (negsuc b) h = absurd (omega (arith, ints))
-floor_mono (negsuc a) d h = omega arith
+use Rattle.policy.proofs.KeyFacts.{floor_mono}
+use Rattle.policy.specs.Offsets.{cap_count, compared_of, IsSame}
+use Rattle.search_space.specs.Points.{same_at, is_point}
 
 -- a cap that grows admits no fewer
 pub count_grows : (curve : Curve) → IsCurve curve → (from to : Cap) → GrowsTo from to → cap_count curve from ≤ cap_count curve to

@@ -2,7 +2,8 @@ use Rattle.std.specs.Prelude.{◌≡◌, ℕ, ◌-◌, ◌<◌, ◌≤◌, false
 use Rattle.task_sheet.specs.SheetParts.{SheetParts}
 use Rattle.task_sheet.specs.Sheets.{IsValidSheet}
 use Rattle.policy.specs.PolicyMeaning.{PolicyMeaning}
-use Rattle.search_space.specs.Points.{is_point, IsSame}
+use Rattle.policy.specs.Offsets.{IsSame}
+use Rattle.search_space.specs.Points.{is_point}
 
 -- no number tells two offsets apart that have no point above the first up to the second
 abbrev pub BetweenPoints : PolicyMeaning → Type 0

@@ -1,7 +1,8 @@
 //! Numbers that tell offsets apart, and the offsets at which one of them changes.
 ghost use Rattle.std.specs.Prelude.{◌≡◌, ◌≤◌, ◌<◌, length};
 ghost use Rattle.lists.specs.Searches.{IsFirstBelow};
-ghost use Rattle.search_space.specs.Points.{cap_count, compared_of, same_at, is_point as is_point_of, IsPointAfter};
+ghost use Rattle.policy.specs.Offsets.{cap_count, compared_of};
+ghost use Rattle.search_space.specs.Points.{same_at, is_point as is_point_of, IsPointAfter};
 
 use curve::Prefix;
 use policy::{Cap, Policy};

@@ -3,6 +3,7 @@ use Rattle.std.proofs.Common.{◌≡◌, ◌≢◌, ℕ, suc, ◌+◌, ◌-◌, 
 use Rattle.std.specs.Prelude.{nat_le}
 use Rattle.std.proofs.lemmas.Bool.{cases_Bool, cases_lt, and_parts, and_from, le-leb, lt-ltb, leb-true, ltb-true}
 use Rattle.lists.proofs.FirstFacts.{all_parts}
+use Rattle.lists.proofs.SearchFacts.{first_cases, best_cases, best_first, no_best}
 use Rattle.task_sheet.specs.Sheets.{task_at}
 use Rattle.policy.specs.Keys.{key_le}
 use Rattle.preemption.specs.CutLaws.{IsLawfulCut}
@@ -14,7 +15,6 @@ use Rattle.run_model.proofs.PendingFacts.{pending_from, pending_to}
 use Rattle.run_model.proofs.ServiceFacts.{runs_tells, tick_cases}
 use Rattle.schedule_laws.specs.Compliance.{arrivals_of, can_cut, JobFits, MayRun, IsSupplied, IsWithinCurves}
 use Rattle.simulated_run.specs.SimulatedRun.{World, with_tick, choice, chosen, inside_segment, most_urgent, may_be_off, comes_before}
-use Rattle.simulated_run.proofs.SearchFacts.{first_cases, best_cases, best_first, no_best}
 use Rattle.simulated_run.proofs.OrderFacts.{comes_itself, comes_chain, later_key, earlier_first}
 use Rattle.simulated_run.proofs.RunFacts.{ticks_more, tick_kept, tick_new, service_kept, service_new, window_kept, window_new}
 use Rattle.simulated_run.proofs.Soundness.{IsLawful, IsSound}

@@ -1,28 +1,14 @@
 -- How many jobs of a task may arrive.
-use Rattle.std.proofs.Common.{◌≡◌, ℕ, zero, suc, ◌+◌, ◌-◌, ◌<◌, ◌≤◌, ◌&&◌, Bool, true, false, sym, ◌∙◌, ap, inl, inr, arith}
+use Rattle.std.proofs.Common.{◌≡◌, ℕ, zero, suc, ◌+◌, ◌-◌, ◌<◌, ◌≤◌, true, false, ap, inl, inr, arith}
 use Rattle.std.specs.Prelude.{nat_le}
-use Rattle.std.proofs.Math.Bool.{and-true}
-use Rattle.std.proofs.lemmas.Bool.{cases_Bool, cases_lt, leb-false, leb-true, le-leb, lt-leb}
+use Rattle.std.proofs.lemmas.Bool.{cases_lt, leb-false, leb-true, le-leb, lt-leb}
+use Rattle.lists.proofs.SearchFacts.{greatest_is, greatest_above, greatest_within}
 use Rattle.curve.specs.CurveValue.{Curve}
 use Rattle.curve.specs.Curves.{alpha_of}
-use Rattle.lists.specs.Firsts.{all_below}
-use Rattle.lists.proofs.FirstFacts.{all_parts, all_from, all_broken}
+use Rattle.lists.proofs.FirstFacts.{all_parts, all_from, all_broken, some_broken}
 use Rattle.run_model.specs.declared.run.Run.{Run}
 use Rattle.schedule_laws.specs.Compliance.{arrivals_of}
 use Rattle.simulated_run.specs.SimulatedRun.{admits, allowance_of}
-use Rattle.simulated_run.proofs.SearchFacts.{greatest_is, greatest_above, greatest_within}
-
--- a test that does not pass for all below n fails for one
-fails_somewhere : (test : ℕ → Bool) (n : ℕ) → all_below test n ≡ false → (k : ℕ) × (k < n) × (test k ≡ false)
-fails_somewhere test zero h = absurd (cc)
-fails_somewhere test (suc n) h = elim (cases_Bool (test n)) [
-  | inr f ↦ (n, omega arith, f)
-  | inl t ↦
-      let e : (all_below test n && true) ≡ all_below test n = and-true (all_below test n) in
-      let below : all_below test n ≡ false = sym e ∙ ap (λ b. all_below test n && b) (sym t) ∙ h in
-      let f = fails_somewhere test n below in
-      (f.0, omega (arith, f.1), f.2)
-]
 
 -- one more than n is too many in some window that ends with t
 pub record IsTight (curve : Curve) (o t n : ℕ) (run : Run) : Type 0 where
@@ -60,7 +46,7 @@ module _ (curve : Curve) (o t : ℕ) (run : Run) where
             record { start = t; within = omega arith; many = omega (arith, most, ap (alpha_of curve) e) }
         | inl less ↦
             let fails : admits curve o run t (g + 1) ≡ false = greatest_above (admits curve o run t) (alpha_of curve 1) (g + 1) (omega arith) (omega (arith, less)) in
-            let s = fails_somewhere (λ s. nat_le (arrivals_of run o s t + (g + 1)) (alpha_of curve (t + 1 - s))) (t + 1) fails in
+            let s = some_broken (λ s. nat_le (arrivals_of run o s t + (g + 1)) (alpha_of curve (t + 1 - s))) (t + 1) fails in
             record { start = s.0; within = omega (arith, s.1); many = omega (arith, leb-false _ _ s.2) }
       ]
 

@@ -3,6 +3,7 @@ use Rattle.std.proofs.Common.{◌≡◌, ◌≢◌, ℕ, suc, ◌+◌, ◌-◌, 
 use Rattle.std.specs.Prelude.{nat_le}
 use Rattle.std.proofs.lemmas.Bool.{leb-true, le-leb, lt-leb, false_from_ne_true}
 use Rattle.lists.proofs.FirstFacts.{all_parts, all_from, all_broken}
+use Rattle.lists.proofs.SearchFacts.{first_is, first_never, first_none, first_some, best_found, best_none, best_some, best_first, no_best}
 use Rattle.run_model.specs.declared.run.Run.{Run}
 use Rattle.run_model.specs.declared.run.Tick.TheVariants.{Off}
 use Rattle.run_model.specs.Runs.{is_on, ticks_in, is_pending, IsPending}
@@ -10,7 +11,6 @@ use Rattle.run_model.proofs.PendingFacts.{pending_from, pending_to}
 use Rattle.run_model.proofs.ServiceFacts.{ticks_in_none}
 use Rattle.schedule_laws.specs.Compliance.{can_cut}
 use Rattle.simulated_run.specs.SimulatedRun.{World, with_tick, comes_before, inside_segment, most_urgent, may_be_off}
-use Rattle.simulated_run.proofs.SearchFacts.{first_is, first_never, first_none, first_some, best_found, best_none, best_some, best_first, no_best}
 use Rattle.simulated_run.proofs.OrderFacts.{comes_itself, comes_chain, comes_once}
 use Rattle.simulated_run.proofs.RunFacts.{window_new}
 

@@ -1,4 +1,3 @@
-pub mod SearchFacts
 pub mod GrowthFacts
 pub mod RunFacts
 pub mod JobFacts

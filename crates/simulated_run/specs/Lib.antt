@@ -1,4 +1,3 @@
-pub mod Searches
 pub mod Words
 pub mod Jobs
 pub mod SimulatedRun

@@ -1,5 +1,6 @@
 -- The simulated run, tick by tick: arrivals, supply, choice.
 use Rattle.std.specs.Prelude.{ℕ, zero, suc, ◌+◌, ◌-◌, ◌%◌, ◌==◌, ◌&&◌, ◌||◌, not, [], ◌∷◌, ◌++◌, Bool, cond, length, nat_le, nat_lt, Option, Some, None}
+use Rattle.lists.specs.Searches.{greatest_to, best_below}
 use Rattle.curve.specs.CurveValue.{Curve}
 use Rattle.curve.specs.Curves.{alpha_of}
 use Rattle.lists.specs.Firsts.{must, first_below, all_below}
@@ -16,7 +17,6 @@ use Rattle.run_model.specs.Runs.{job_at, is_on, ticks_in, is_pending}
 use Rattle.schedule_laws.specs.Compliance.{arrivals_of, can_cut}
 use Rattle.simulated_run.specs.declared.mode.Mode.{Mode}
 use Rattle.simulated_run.specs.declared.mode.Mode.TheVariants.{Dense, Seed}
-use Rattle.simulated_run.specs.Searches.{greatest_to, best_below}
 use Rattle.simulated_run.specs.Words.{word, next}
 use Rattle.simulated_run.specs.Jobs.{new_job, after_job}
 

@@ -3,6 +3,7 @@ use Rattle.std.proofs.Common.{◌≡◌, ℕ, suc, ◌+◌, ◌-◌, ◌<◌, �
 use Rattle.std.specs.Global.{Vec}
 use Rattle.std.specs.BTreeMap.{BTreeMap, Updates}
 use Rattle.std.proofs.Math.ListN.{set}
+use Rattle.lists.proofs.SearchFacts.{greatest_within}
 use Rattle.curve.specs.CurveValue.{Curve}
 use Rattle.curve.specs.Curves.{alpha_of}
 use Rattle.curve.specs.Validity.{IsCurve}
@@ -22,7 +23,6 @@ use Rattle.simulated_run.specs.Words.{after}
 use Rattle.simulated_run.specs.Jobs.{cost_by, segments_by, words_by, new_job}
 use Rattle.simulated_run.specs.SimulatedRun.{World, Moment, moment_after, with_job, add_job, add_jobs, arrive_of, arrive_below, room, arriving, after_arriving}
 use Rattle.simulated_run.proofs.GrowthFacts.{jobs_in_turn, tasks_in_turn}
-use Rattle.simulated_run.proofs.SearchFacts.{greatest_within}
 use Rattle.simulated_run.proofs.JobFacts.{new_cost_low, new_cost_high, new_fits_by}
 use Rattle.simulated_run.proofs.Soundness.{IsLawful}
 use Rattle.simulated_run.proofs.Stages.{IsBetween, between}
@@ -30,8 +30,7 @@ use Rattle.supply.specs.Lawful.{stated_starts, stated_grows}
 use Rattle.windows.specs.Arrivals.{allowance_in, admits_in, IsPast}
 use Rattle.windows.specs.Crowds.{AreArrivals}
 use Rattle.windows.specs.Supplied.{AreCounts, ArePromised}
-use Rattle.windows.proofs.OffFacts.{counts_job}
-use Rattle.windows.proofs.PastFacts.{allowance_same}
+use Rattle.simulator.proofs.SameAnswers.{allowance_same, counts_job}
 use Rattle.simulator.specs.declared.machine.Rank.{Rank}
 use Rattle.simulator.specs.declared.refusal.SimRefusal.{SimRefusal}
 use Rattle.simulator.specs.declared.refusal.SimRefusal.TheVariants.{Jobs, Segments, Memory}

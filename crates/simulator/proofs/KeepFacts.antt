@@ -5,6 +5,7 @@ use Rattle.std.proofs.Math.ListN.{set}
 use Rattle.std.proofs.lemmas.Bool.{cases_Bool, cases_lt, cases_eq, ne_eqb, eq-eqb}
 use Rattle.std.proofs.lemmas.Bool.Decides.{nat_tests}
 use Rattle.std.proofs.lemmas.List.{get_or_append_left, get_or_at, get_or-set_same, get_or-set_other, length-set}
+use Rattle.lists.proofs.SearchFacts.{first_failing, first_none, first_some}
 use Rattle.task_sheet.specs.SheetParts.{SheetParts}
 use Rattle.task_sheet.specs.Sheets.{task_at}
 use Rattle.task_sheet.specs.declared.tasks.Job.{Job}
@@ -19,7 +20,6 @@ use Rattle.schedule_laws.specs.Compliance.{can_cut}
 use Rattle.simulated_run.specs.SimulatedRun.{World, with_job, with_tick, inside_segment}
 use Rattle.simulated_run.proofs.GrowthFacts.{length_more}
 use Rattle.simulated_run.proofs.RunFacts.{job_kept, job_new, jobs_more, tick_kept, tick_new, ticks_more, service_new, service_unlisted}
-use Rattle.simulated_run.proofs.SearchFacts.{first_failing, first_none, first_some}
 use Rattle.simulator.specs.declared.machine.Rank.{Rank}
 use Rattle.simulator.specs.Ranks.{rank_at, rank_cmp}
 use Rattle.simulator.specs.Kept.{IsQueue, left_at, IsKnown, IsKeptAt, OnlyInside, CanRun}

@@ -1,5 +1,6 @@
 pub mod LoadFacts
 pub mod LimitFacts
+pub mod SameAnswers
 pub mod WindowFacts
 pub mod QueueFacts
 pub mod CutFacts

@@ -5,10 +5,9 @@ use Rattle.std.proofs.lemmas.Bool.Decides.{nat_tests}
 use Rattle.std.proofs.lemmas.List.{take-append-le, take_all, length-append}
 use Rattle.std.proofs.lemmas.List.Sums.{sum_by-append, sum_by-cons}
 use Rattle.lists.specs.Firsts.{first_of, must, first_below}
-use Rattle.lists.proofs.FirstFacts.{must_from}
+use Rattle.lists.proofs.FirstFacts.{must_from, must_fails}
 use Rattle.task_sheet.specs.declared.tasks.Job.{Job}
 use Rattle.run_text.specs.Text.{segments_of}
-use Rattle.simulated_run.proofs.SearchFacts.{must_fail}
 use Rattle.simulated_run.proofs.GrowthFacts.{BeginsWith, length_more}
 use Rattle.simulator.specs.declared.refusal.SimRefusal.{SimRefusal}
 use Rattle.simulator.specs.declared.refusal.SimRefusal.TheVariants.{Jobs, Segments, Memory}
@@ -43,12 +42,12 @@ segments_then jobs j = ap segments_of (take_all (length jobs + 1) (jobs ++ j ∷
 module _ (jobs : List Job) (j : Job) (within : IsWithin jobs) where
   -- one job too many
   pub too_many_jobs : 20000 ≤ length jobs → refused_by (jobs ++ j ∷ []) ≡ Some Jobs
-  too_many_jobs h = refused_more jobs j ∙ rw (within.none, must_fail (ltb (length jobs) 20000) Jobs (ge-ltb _ _ h)) refl
+  too_many_jobs h = refused_more jobs j ∙ rw (within.none, must_fails (ltb (length jobs) 20000) Jobs (ge-ltb _ _ h)) refl
 
   pub too_many_segments : length jobs < 20000 → 1000000 < segments_of jobs + length j.segs → refused_by (jobs ++ j ∷ []) ≡ Some Segments
   too_many_segments few h =
       refused_more jobs j
-      ∙ rw (within.none, must_from (ltb (length jobs) 20000) Jobs (lt-ltb _ _ few), segments_then jobs j, must_fail (leb (segments_of jobs + length j.segs) 1000000) Segments (lt-leb _ _ h)) refl
+      ∙ rw (within.none, must_from (ltb (length jobs) 20000) Jobs (lt-ltb _ _ few), segments_then jobs j, must_fails (leb (segments_of jobs + length j.segs) 1000000) Segments (lt-leb _ _ h)) refl
 
   pub within_more : length jobs < 20000 → segments_of jobs + length j.segs ≤ 1000000 → IsWithin (jobs ++ j ∷ [])
   within_more few h = record {

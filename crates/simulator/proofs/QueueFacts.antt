@@ -13,6 +13,7 @@ use Rattle.std.proofs.lemmas.Bool.Decides.{nat_tests}
 use Rattle.std.proofs.lemmas.Int.{ints}
 use Rattle.std.proofs.lemmas.Cmp.{then_total, on_total, nat_cmp_total, int_cmp_total, tied_itself}
 use Rattle.std.proofs.lemmas.List.{get_or_append_left, get_or_at, get_or-set_same, get_or-set_other, nil_from_length}
+use Rattle.lists.proofs.SearchFacts.{best_some, best_none}
 use Rattle.task_sheet.specs.SheetParts.{SheetParts}
 use Rattle.task_sheet.specs.declared.tasks.Job.{Job}
 use Rattle.policy.specs.PolicyMeaning.{PolicyMeaning}
@@ -20,7 +21,6 @@ use Rattle.run_model.specs.declared.run.Run.{Run}
 use Rattle.run_model.specs.Runs.{no_job, is_pending}
 use Rattle.simulated_run.specs.SimulatedRun.{World, most_urgent, comes_before}
 use Rattle.simulated_run.proofs.GrowthFacts.{length_more}
-use Rattle.simulated_run.proofs.SearchFacts.{best_some, best_none}
 use Rattle.simulated_run.proofs.OrderFacts.{comes_before_is}
 use Rattle.simulator.specs.declared.machine.Rank.{Rank}
 use Rattle.simulator.specs.Ranks.{rank_at, rank_of, rank_cmp}

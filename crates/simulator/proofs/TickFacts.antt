@@ -4,6 +4,7 @@ use Rattle.std.specs.Global.{Vec}
 use Rattle.std.specs.BTreeMap.{BTreeMap, Updates}
 use Rattle.std.proofs.Math.ListN.{set}
 use Rattle.std.proofs.lemmas.Bool.{cases_lt, false_from_ne_true}
+use Rattle.lists.proofs.SearchFacts.{best_found, IsFound}
 use Rattle.task_sheet.specs.SheetParts.{SheetParts}
 use Rattle.task_sheet.specs.Sheets.{task_at}
 use Rattle.task_sheet.specs.declared.tasks.Job.{Job}
@@ -17,7 +18,6 @@ use Rattle.run_model.specs.Runs.{job_at, service_of, is_on, is_pending}
 use Rattle.run_model.proofs.ServiceFacts.{runs_tells}
 use Rattle.schedule_laws.specs.Compliance.{can_cut}
 use Rattle.simulated_run.specs.SimulatedRun.{World, Moment, with_tick, add_tick, choice, chosen, most_urgent, comes_before, may_be_off, is_off, after_off}
-use Rattle.simulated_run.proofs.SearchFacts.{best_found, IsFound}
 use Rattle.simulator.specs.declared.machine.Machine.{Machine}
 use Rattle.simulator.specs.declared.machine.Rank.{Rank}
 use Rattle.simulator.specs.Ranks.{rank_at, rank_of, rank_cmp}

@@ -20,8 +20,7 @@ use Rattle.windows.specs.Arrivals.{IsPast}
 use Rattle.windows.specs.Crowds.{AreArrivals}
 use Rattle.windows.specs.Supplied.{AreCounts, ArePromised}
 use Rattle.windows.proofs.CrowdFacts.{arrival_job}
-use Rattle.windows.proofs.PastFacts.{lists_none, lists_tick, lists_own, lists_other}
-use Rattle.windows.proofs.OffFacts.{counts_tick}
+use Rattle.simulator.proofs.SameAnswers.{lists_none, lists_tick, lists_own, lists_other, counts_tick}
 use Rattle.simulator.specs.Kept.{HasArrivals}
 
 -- one more job

@@ -4,11 +4,12 @@ use Rattle.std.proofs.lemmas.Bool.{cases_Bool}
 use Rattle.lists.specs.Searches.{IsLeast}
 use Rattle.task_sheet.specs.SheetParts.{SheetParts}
 use Rattle.policy.specs.PolicyMeaning.{PolicyMeaning}
+use Rattle.policy.specs.Offsets.{compared_of, IsSame}
 use Rattle.preemption.specs.CutMeaning.{CutMeaning}
-use Rattle.search_space.specs.Points.{compared_of, IsSame, is_point}
+use Rattle.demand.specs.Meeting.{MeetsEnd, MeetsBound, PointsMeet}
+use Rattle.search_space.specs.Points.{is_point}
 use Rattle.search_space.proofs.PointFacts.{same_before}
 use Rattle.certificate.specs.declared.cert.Entry.{Entry}
-use Rattle.abstract_rta.specs.Meeting.{MeetsEnd, MeetsBound, PointsMeet}
 use Rattle.conditions.specs.Meets.{TaskMeets}
 use Rattle.solver.specs.Points.{passing, points_below}
 use Rattle.solver.specs.Best.{IsBestEntry, MeetsEach}

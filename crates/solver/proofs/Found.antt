@@ -6,9 +6,9 @@ use Rattle.lists.specs.Searches.{IsLeast, IsLeastTo}
 use Rattle.task_sheet.specs.SheetParts.{SheetParts}
 use Rattle.policy.specs.PolicyMeaning.{PolicyMeaning}
 use Rattle.preemption.specs.CutMeaning.{CutMeaning}
+use Rattle.demand.specs.Meeting.{IsWindow, MeetsEnd}
 use Rattle.search_space.specs.Points.{is_point}
 use Rattle.certificate.specs.declared.cert.Entry.{Entry}
-use Rattle.abstract_rta.specs.Meeting.{IsWindow, MeetsEnd}
 use Rattle.solver.specs.declared.analysis.AnalyseRefusal.{AnalyseRefusal}
 use Rattle.solver.specs.declared.analysis.AnalyseRefusal.TheVariants.{NoBound, Points, Memory}
 use Rattle.solver.specs.Laws.{Laws}

@@ -5,7 +5,7 @@ use Rattle.task_sheet.specs.SheetParts.{SheetParts}
 use Rattle.policy.specs.PolicyMeaning.{PolicyMeaning}
 use Rattle.preemption.specs.CutMeaning.{CutMeaning}
 use Rattle.demand.specs.Demand.{rest_of, need_of, window_need_of}
-use Rattle.abstract_rta.specs.Meeting.{IsWindow, MeetsEnd, MeetsBound}
+use Rattle.demand.specs.Meeting.{IsWindow, MeetsEnd, MeetsBound}
 use Rattle.solver.specs.Laws.{Laws}
 use Rattle.solver.proofs.LawFacts.{grows}
 

@@ -6,7 +6,7 @@ use Rattle.policy.specs.PolicyMeaning.{PolicyMeaning}
 use Rattle.preemption.specs.CutLaws.{IsLawfulCut}
 use Rattle.preemption.specs.CutMeaning.{CutMeaning}
 use Rattle.demand.proofs.DemandFacts.{need_grows, window_need_grows, fits}
-use Rattle.abstract_rta.proofs.Gaps.{sbf_mono, need_less}
+use Rattle.demand.proofs.Gaps.{sbf_mono, need_less}
 use Rattle.solver.specs.Laws.{Laws}
 
 -- demand, points and a supply that never falls keep the laws

@@ -4,10 +4,10 @@ use Rattle.std.proofs.lemmas.Bool.{cases_lt}
 use Rattle.lists.specs.Searches.{IsLeast}
 use Rattle.task_sheet.specs.SheetParts.{SheetParts}
 use Rattle.policy.specs.PolicyMeaning.{PolicyMeaning}
+use Rattle.policy.specs.Offsets.{IsSame}
 use Rattle.preemption.specs.CutMeaning.{CutMeaning}
-use Rattle.search_space.specs.Points.{IsSame}
 use Rattle.certificate.specs.declared.cert.Entry.{Entry}
-use Rattle.abstract_rta.specs.Meeting.{IsWindow, MeetsEnd, MeetsBound, PointsMeet}
+use Rattle.demand.specs.Meeting.{IsWindow, MeetsEnd, MeetsBound, PointsMeet}
 use Rattle.conditions.specs.Meets.{TaskMeets}
 use Rattle.solver.specs.Laws.{Laws}
 use Rattle.solver.specs.Best.{IsBestEntry, MeetsEach}

@@ -22,7 +22,8 @@ entry_before entries e k l = get_or-append entries (e ∷ []) _ k l
 entry_last : (entries : List Entry) (e : Entry) → nth_entry (entries ++ e ∷ []) (length entries) ≡ e
 entry_last entries e = get_or-append_seam entries e [] _
 
-points_before : (entries : List Entry) (e : Entry) (n : ℕ) → n ≤ length entries → points_to (entries ++ e ∷ []) n ≡ points_to entries n
+-- the points of the entries before the last
+pub points_before : (entries : List Entry) (e : Entry) (n : ℕ) → n ≤ length entries → points_to (entries ++ e ∷ []) n ≡ points_to entries n
 points_before entries e zero l = refl
 points_before entries e (suc n) l = omega (arith, points_before entries e n (omega arith), ap (λ (x : Entry). length x.points) (entry_before entries e n (omega arith)))
 

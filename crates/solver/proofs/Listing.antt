@@ -6,8 +6,8 @@ use Rattle.lists.specs.Searches.{IsLeast, IsFirstBelow}
 use Rattle.task_sheet.specs.SheetParts.{SheetParts}
 use Rattle.policy.specs.PolicyMeaning.{PolicyMeaning}
 use Rattle.preemption.specs.CutMeaning.{CutMeaning}
+use Rattle.demand.specs.Meeting.{IsWindow, MeetsEnd, MeetsBound}
 use Rattle.search_space.specs.Points.{is_point, IsPointAfter}
-use Rattle.abstract_rta.specs.Meeting.{IsWindow, MeetsEnd, MeetsBound}
 use Rattle.solver.specs.Laws.{Laws}
 use Rattle.solver.specs.Points.{passing, points_below}
 use Rattle.solver.specs.Best.{MeetsEach, IsBestEntry}

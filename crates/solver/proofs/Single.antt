@@ -9,7 +9,7 @@ use Rattle.policy.specs.PolicyMeaning.{PolicyMeaning}
 use Rattle.preemption.specs.CutMeaning.{CutMeaning}
 use Rattle.certificate.specs.declared.cert.Entry.{Entry}
 use Rattle.certificate.specs.declared.cert.Cert.{Cert}
-use Rattle.abstract_rta.specs.Meeting.{IsWindow, MeetsEnd}
+use Rattle.demand.specs.Meeting.{IsWindow, MeetsEnd}
 use Rattle.conditions.specs.Conditions.{no_entry}
 use Rattle.solver.specs.declared.analysis.AnalyseRefusal.{AnalyseRefusal}
 use Rattle.solver.specs.declared.analysis.AnalyseRefusal.TheVariants.{NoBound, Points, Memory}

@@ -7,8 +7,8 @@ use Rattle.task_sheet.specs.SheetParts.{SheetParts}
 use Rattle.policy.specs.PolicyMeaning.{PolicyMeaning}
 use Rattle.preemption.specs.CutMeaning.{CutMeaning}
 use Rattle.demand.specs.Demand.{window_need_of}
-use Rattle.abstract_rta.specs.Meeting.{IsWindow, MeetsEnd}
 use Rattle.certificate.specs.declared.cert.Entry.{Entry}
+use Rattle.demand.specs.Meeting.{IsWindow, MeetsEnd}
 use Rattle.conditions.specs.Conditions.{is_window}
 use Rattle.solver.specs.Points.{points_below}
 use Rattle.solver.specs.Best.{MeetsEach, points_to}

@@ -7,7 +7,7 @@ use Rattle.policy.specs.PolicyMeaning.{PolicyMeaning}
 use Rattle.preemption.specs.CutMeaning.{CutMeaning}
 use Rattle.certificate.specs.declared.cert.Entry.{Entry}
 use Rattle.certificate.specs.declared.cert.Cert.{Cert}
-use Rattle.abstract_rta.specs.Meeting.{IsWindow, MeetsEnd, MeetsBound}
+use Rattle.demand.specs.Meeting.{IsWindow, MeetsEnd, MeetsBound}
 use Rattle.conditions.specs.Conditions.{no_entry, entry_at, failed_of}
 use Rattle.solver.specs.Points.{points_below}
 use Rattle.solver.specs.declared.analysis.AnalyseRefusal.{AnalyseRefusal}

@@ -2,9 +2,9 @@ use Rattle.std.specs.Prelude.{ℕ, ◌+◌, ◌-◌, ◌<◌, ◌≤◌, length}
 use Rattle.task_sheet.specs.SheetParts.{SheetParts}
 use Rattle.task_sheet.specs.Sheets.{IsValidSheet}
 use Rattle.policy.specs.PolicyMeaning.{PolicyMeaning}
+use Rattle.policy.specs.Offsets.{IsSame}
 use Rattle.preemption.specs.CutMeaning.{CutMeaning}
 use Rattle.demand.specs.Demand.{rest_of, need_of, window_need_of}
-use Rattle.search_space.specs.Points.{IsSame}
 
 -- all that the search for least numbers rests on
 pub record Laws (p : PolicyMeaning) (m : CutMeaning) (sbf : ℕ → ℕ) (sheet : SheetParts) : Type 0 where

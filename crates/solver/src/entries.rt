@@ -2,7 +2,7 @@
 ghost use Rattle.std.specs.Prelude.{◌≡◌, ◌≤◌, ◌<◌, length, IfOk};
 ghost use Rattle.lists.specs.Searches.{IsLeast};
 ghost use Rattle.preemption.specs.CutLaws.{Serves};
-ghost use Rattle.abstract_rta.specs.Meeting.{IsWindow};
+ghost use Rattle.demand.specs.Meeting.{IsWindow};
 ghost use Rattle.solver.specs.Points.{points_below, IsCount};
 ghost use Rattle.solver.specs.Best.{IsBestEntry};
 

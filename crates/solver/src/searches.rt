@@ -5,7 +5,7 @@
 ghost use Rattle.std.specs.Prelude.{◌≤◌, ◌<◌, length};
 ghost use Rattle.lists.specs.Searches.{IsLeastTo};
 ghost use Rattle.preemption.specs.CutLaws.{Serves};
-ghost use Rattle.abstract_rta.specs.Meeting.{IsWindow, MeetsEnd, MeetsBound};
+ghost use Rattle.demand.specs.Meeting.{IsWindow, MeetsEnd, MeetsBound};
 
 use crate::laws::laws;
 use demand::{need, rest, window_need};

@@ -9,7 +9,7 @@ use Rattle.task_sheet.specs.declared.tasks.SupplySpec.TheVariants.{Promised}
 use Rattle.supply.specs.Promises.{count_of, promised}
 use Rattle.supply.specs.Lawful.{test_holds, test_fails, rise_parts, count_none, Facts, facts_of, promised_zero, promised_step}
 
-last_above : (times : List ℕ) (low : ℕ) → rise_above low times ≡ true → low ≤ last_number low times
+pub last_above : (times : List ℕ) (low : ℕ) → rise_above low times ≡ true → low ≤ last_number low times
 last_above [] low rise = omega arith
 last_above (t ∷ times) low rise =
     let parts = rise_parts low t times rise in
@@ -51,7 +51,7 @@ count_before (t ∷ times) low (suc r) rise h =
     let later = later_time times t r parts.1 (omega arith) in
     omega (arith, test_holds t (get_or times r 0 - 1) (omega (arith, later)), count_before times t r parts.1 (omega arith))
 
-time_within : (times : List ℕ) (low r : ℕ) → rise_above low times ≡ true → r < length times → get_or times r 0 ≤ last_number low times
+pub time_within : (times : List ℕ) (low r : ℕ) → rise_above low times ≡ true → r < length times → get_or times r 0 ≤ last_number low times
 time_within [] low r rise h = absurd (omega arith)
 time_within (t ∷ times) low zero rise h = last_above times t (rise_parts low t times rise).1
 time_within (t ∷ times) low (suc r) rise h = time_within times t r (rise_parts low t times rise).1 (omega arith)

@@ -1,22 +1,17 @@
--- What a caller keeps from tick to tick, and the same answers in the words of the simulated run.
-use Rattle.std.proofs.Common.{◌≡◌, ℕ, zero, suc, ◌+◌, ◌-◌, ◌<◌, ◌≤◌, ◌&&◌, Bool, true, false, cond, List, [], ◌∷◌, ◌++◌, length, get_or, refl, sym, ap, subst, inl, inr, arith, leb, ltb}
-use Rattle.std.proofs.lemmas.Bool.{cases_lt, cases_Bool, le-leb, leb-true, eq-eqb, ne_eqb}
+-- What a caller keeps of arrivals from tick to tick.
+use Rattle.std.proofs.Common.{◌≡◌, ℕ, suc, ◌+◌, ◌-◌, ◌<◌, ◌≤◌, ◌&&◌, true, cond, List, [], ◌∷◌, ◌++◌, length, get_or, refl, ap, inl, inr, arith, leb, ltb}
+use Rattle.std.proofs.lemmas.Bool.{cases_lt, le-leb, leb-true}
 use Rattle.std.proofs.lemmas.Bool.Decides.{nat_tests}
 use Rattle.std.proofs.lemmas.List.Sums.{sum_by_push}
 use Rattle.std.proofs.lemmas.List.Sorted.{IsNonDecreasingBy-push}
 use Rattle.std.proofs.lemmas.List.{length-append, get_or_append_left, get_or-append_right, get_or_default}
-use Rattle.lists.specs.Firsts.{all_below}
 use Rattle.lists.proofs.FirstFacts.{all_parts, all_from}
+use Rattle.lists.proofs.SearchFacts.{greatest_passes}
+use Rattle.lists.specs.Searches.{greatest_to}
 use Rattle.curve.specs.CurveValue.{Curve}
 use Rattle.curve.specs.Curves.{alpha_of}
 use Rattle.curve.specs.Validity.{IsCurve}
 use Rattle.curve.proofs.CurveFacts.{alpha_mono}
-use Rattle.task_sheet.specs.declared.tasks.Job.{Job}
-use Rattle.run_model.specs.declared.run.Run.{Run}
-use Rattle.run_model.specs.declared.run.Tick.{Tick}
-use Rattle.schedule_laws.specs.Compliance.{arrives_in, arrivals_of}
-use Rattle.simulated_run.specs.Searches.{greatest_to}
-use Rattle.simulated_run.specs.SimulatedRun.{with_job, with_tick, admits, allowance_of}
 use Rattle.windows.specs.Arrivals.{arrived_in, admits_in, allowance_in, IsPast}
 use Rattle.windows.proofs.ArrivalFacts.{arrived_most, arrived_split}
 
@@ -24,7 +19,8 @@ use Rattle.windows.proofs.ArrivalFacts.{arrived_most, arrived_split}
 abbrev pub HasRoom : Curve → List ℕ → ℕ → ℕ → Type 0
 HasRoom c xs t r = (s : ℕ) → s ≤ t → arrived_in xs s (t + 1) + r ≤ alpha_of c (t + 1 - s)
 
-arrived_push : (xs : List ℕ) (t s u : ℕ) → arrived_in (xs ++ t ∷ []) s u ≡ arrived_in xs s u + cond (leb s t && ltb t u) 1 0
+-- the list with one arrival more
+pub arrived_push : (xs : List ℕ) (t s u : ℕ) → arrived_in (xs ++ t ∷ []) s u ≡ arrived_in xs s u + cond (leb s t && ltb t u) 1 0
 unfolding arrived_in
 arrived_push xs t s u = sum_by_push (λ a. cond {A = ℕ} (leb s a && ltb a u) 1 0) xs t
 
@@ -44,28 +40,6 @@ arrived_none s u = refl
 -- of the arrivals before t, a window that ends later has no more
 arrived_late : (xs : List ℕ) (t s u : ℕ) → ((i : ℕ) → i < length xs → get_or xs i 0 < t) → s ≤ t → t ≤ u → arrived_in xs s u ≤ arrived_in xs s t
 arrived_late xs t s u before h l = omega (arith, arrived_split xs s t u, arrived_most xs t u (length xs) (λ k a b. before k b))
-
-greatest_same : (p q : ℕ → Bool) (n : ℕ) → ((g : ℕ) → p g ≡ q g) → greatest_to p n ≡ greatest_to q n
-greatest_same p q zero same = refl
-greatest_same p q (suc n) same = rw (same (suc n), greatest_same p q n same) refl
-
-all_same : (p q : ℕ → Bool) (n : ℕ) → ((k : ℕ) → k < n → p k ≡ q k) → all_below p n ≡ all_below q n
-all_same p q zero same = refl
-all_same p q (suc n) same = rw (all_same p q n (λ k b. same k (omega arith)), same n (omega arith)) refl
-
--- the allowance of a list that has the arrivals of task o
-pub allowance_same : (c : Curve) (o : ℕ) (run : Run) (xs : List ℕ) (t : ℕ) → ((s : ℕ) → s ≤ t → arrived_in xs s t ≡ arrivals_of run o s t) → allowance_in c xs t ≡ allowance_of c o run t
-unfolding allowance_in allowance_of
-allowance_same c o run xs t same =
-    greatest_same (admits_in c xs t) (admits c o run t) (alpha_of c 1)
-    (λ g. all_same (λ s. leb (arrived_in xs s t + g) (alpha_of c (t + 1 - s))) (λ s. leb (arrivals_of run o s t + g) (alpha_of c (t + 1 - s))) (t + 1) (λ s b. ap (λ (n : ℕ). leb (n + g) (alpha_of c (t + 1 - s))) (same s (omega arith))))
-
-greatest_passes : (test : ℕ → Bool) (n : ℕ) → test 0 ≡ true → test (greatest_to test n) ≡ true
-greatest_passes test zero h = h
-greatest_passes test (suc n) h = elim (cases_Bool (test (suc n))) [
-  | inl e ↦ subst (λ b. test (cond b (suc n) (greatest_to test n)) ≡ true) (sym e) e
-  | inr e ↦ subst (λ b. test (cond b (suc n) (greatest_to test n)) ≡ true) (sym e) (greatest_passes test n h)
-]
 
 module _ (c : Curve) (ok : IsCurve c) where
   pub past_none : (t : ℕ) → IsPast c [] t
@@ -106,31 +80,3 @@ module _ (c : Curve) (ok : IsCurve c) where
       ]
     ];
   }
-
--- the list has the arrivals of task o: as many in each window
-abbrev pub ListsArrivals : Run → ℕ → List ℕ → Type 0
-ListsArrivals run o xs = (s u : ℕ) → arrived_in xs s u ≡ arrivals_of run o s u
-
-pub lists_none : (o : ℕ) (ticks : List Tick) → ListsArrivals (record { jobs = []; ticks = ticks }) o []
-unfolding arrived_in arrivals_of
-lists_none o ticks s u = refl
-
-pub lists_tick : (run : Run) (o : ℕ) (xs : List ℕ) (tick : Tick) → ListsArrivals run o xs → ListsArrivals (with_tick run tick) o xs
-unfolding with_tick arrivals_of
-lists_tick run o xs tick same = same
-
-arrivals_push : (run : Run) (job : Job) (o s u : ℕ) → arrivals_of (with_job run job) o s u ≡ arrivals_of run o s u + cond (arrives_in o s u job) 1 0
-unfolding with_job arrivals_of
-arrivals_push run job o s u = sum_by_push (λ j. cond {A = ℕ} (arrives_in o s u j) 1 0) run.jobs job
-
--- a job of the task arrives
-pub lists_own : (run : Run) (o : ℕ) (xs : List ℕ) (job : Job) → job.task ≡ o → ListsArrivals run o xs → ListsArrivals (with_job run job) o (xs ++ job.arrival ∷ [])
-lists_own run o xs job e same s u =
-    let own : arrives_in o s u job ≡ (leb s job.arrival && ltb job.arrival u) = ap (λ (b : Bool). b && (leb s job.arrival && ltb job.arrival u)) (eq-eqb job.task o e) in
-    omega (arith, same s u, arrivals_push run job o s u, arrived_push xs job.arrival s u, ap (λ (b : Bool). cond {A = ℕ} b 1 0) own)
-
--- a job of another task arrives
-pub lists_other : (run : Run) (o : ℕ) (xs : List ℕ) (job : Job) → (job.task ≡ o → ⊥) → ListsArrivals run o xs → ListsArrivals (with_job run job) o xs
-lists_other run o xs job other same s u =
-    let none : arrives_in o s u job ≡ false = ap (λ (b : Bool). b && (leb s job.arrival && ltb job.arrival u)) (ne_eqb job.task o other) in
-    omega (arith, same s u, arrivals_push run job o s u, ap (λ (b : Bool). cond {A = ℕ} b 1 0) none)

@@ -2,13 +2,13 @@ use Rattle.std.proofs.Common.{◌≡◌, ℕ, zero, suc, ◌+◌, ◌-◌, ◌*�
 use Rattle.std.proofs.lemmas.Bool.{cases_lt}
 use Rattle.std.proofs.lemmas.Nat.{div-mul-add, mod-mul-add}
 use Rattle.std.proofs.Math.Nat.{add-mod_right, add-div_right, div_self, mod_self}
-use Rattle.task_sheet.specs.Rules.{rise_above, last_number}
+use Rattle.task_sheet.specs.Rules.{rise_above}
 use Rattle.task_sheet.specs.Sheets.{IsPromise}
 use Rattle.task_sheet.specs.declared.tasks.SupplySpec.{SupplySpec}
 use Rattle.task_sheet.specs.declared.tasks.SupplySpec.TheVariants.{Promised}
 use Rattle.supply.specs.Promises.{count_of, promised, sbf_of}
 use Rattle.supply.specs.Lawful.{test_holds, test_fails, rise_parts, count_none, Facts, facts_of}
-use Rattle.supply.proofs.PromiseFacts.{count_there, later_time}
+use Rattle.supply.proofs.PromiseFacts.{count_there, later_time, time_within}
 use Rattle.windows.specs.Supplied.{ArePromised, MayBeOff}
 
 -- the last of the times that are counted
@@ -24,17 +24,6 @@ last_counted (t ∷ times) low d (suc k) rise e = elim (cases_lt d t) [
       (omega (arith, rest.0), rest.1)
   | inl c ↦ absurd (omega (arith, e, test_fails t d c, count_none times t d (rise_parts low t times rise).1 (omega arith)))
 ]
-
-last_above : (times : List ℕ) (low : ℕ) → rise_above low times ≡ true → low ≤ last_number low times
-last_above [] low rise = omega arith
-last_above (t ∷ times) low rise =
-    let parts = rise_parts low t times rise in
-    omega (arith, parts.0, last_above times t parts.1)
-
-time_within : (times : List ℕ) (low k : ℕ) → rise_above low times ≡ true → k < length times → get_or times k 0 ≤ last_number low times
-time_within [] low k rise h = absurd (omega arith)
-time_within (t ∷ times) low zero rise h = last_above times t (rise_parts low t times rise).1
-time_within (t ∷ times) low (suc k) rise h = time_within times t k (rise_parts low t times rise).1 (omega arith)
 
 -- later times are greater
 time_mono : (times : List ℕ) (low i k : ℕ) → rise_above low times ≡ true → i ≤ k → k < length times → get_or times i 0 ≤ get_or times k 0

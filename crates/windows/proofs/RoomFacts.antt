@@ -1,12 +1,12 @@
 use Rattle.std.proofs.Common.{◌≡◌, ℕ, zero, suc, ◌+◌, ◌-◌, ◌<◌, ◌≤◌, ◌⊎◌, false, List, length, get_or, min, sym, ap, subst, inl, inr, arith, leb}
 use Rattle.std.proofs.lemmas.Bool.{cases_lt, lt-leb, le-leb}
 use Rattle.lists.proofs.FirstFacts.{all_from, all_broken}
+use Rattle.lists.proofs.SearchFacts.{greatest_is}
 use Rattle.curve.specs.declared.prefix.Step.{Step}
 use Rattle.curve.specs.CurveValue.{Curve}
 use Rattle.curve.specs.Curves.{alpha_of}
 use Rattle.curve.specs.Validity.{IsCurve}
 use Rattle.curve.proofs.CurveFacts.{alpha_mono}
-use Rattle.simulated_run.proofs.SearchFacts.{greatest_is}
 use Rattle.windows.specs.Arrivals.{arrived_in, admits_in, allowance_in, IsPast}
 use Rattle.windows.specs.Steps.{step_at, IsLastStep}
 use Rattle.windows.proofs.ArrivalFacts.{arrived_least, arrived_most, arrived_split}

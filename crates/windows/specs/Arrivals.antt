@@ -2,9 +2,9 @@
 use Rattle.std.specs.Prelude.{ℕ, ◌+◌, ◌-◌, ◌<◌, ◌≤◌, ◌&&◌, Bool, List, length, count_by, nat_le, nat_lt, slice_index}
 use Rattle.std.specs.List.Sorted.{IsNonDecreasing}
 use Rattle.lists.specs.Firsts.{all_below}
+use Rattle.lists.specs.Searches.{greatest_to}
 use Rattle.curve.specs.CurveValue.{Curve}
 use Rattle.curve.specs.Curves.{alpha_of}
-use Rattle.simulated_run.specs.Searches.{greatest_to}
 
 -- how many of the arrivals are in [s, u)
 unfoldable pub arrived_in : List ℕ → ℕ → ℕ → ℕ

@@ -3,7 +3,7 @@ ghost use Rattle.std.specs.Prelude.{◌<◌, ◌^◌, length};
 
 use cert_check::{Verdict, check_cert};
 use certificate::write_cert;
-use generated_sheet::make_sheet;
+use exercise::make_sheet;
 use lists::Items;
 use policy::Edf;
 use preemption::PerTask;

@@ -1,7 +1,7 @@
 use Rattle.std.proofs.Common.{◌==◌, length, sym, arith}
 use Rattle.std.proofs.lemmas.Bool.{ne_eqb}
 use Rattle.lists.proofs.FirstFacts.{all_broken}
-use Rattle.search_space.specs.Points.{compared_of}
+use Rattle.policy.specs.Offsets.{compared_of}
 use Rattle.search_space.proofs.points.is_same.Goals as goal
 
 pub returns-then-compared : goal.returns-then-compared

@@ -1,6 +1,6 @@
 use Rattle.std.proofs.Common.{◌≡◌, ◌==◌, true}
 use Rattle.lists.specs.Firsts.{all_below}
-use Rattle.search_space.specs.Points.{compared_of}
+use Rattle.policy.specs.Offsets.{compared_of}
 use Rattle.search_space.proofs.points.is_same.Given as goal
 
 abbrev pub invariant-loop-o : goal.invariant-loop-o

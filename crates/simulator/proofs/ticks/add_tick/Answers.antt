@@ -7,7 +7,7 @@ use Rattle.run_model.specs.declared.run.Tick.{Tick}
 use Rattle.run_model.specs.Runs.{is_on}
 use Rattle.simulated_run.specs.SimulatedRun.{World, Moment, may_be_off, with_tick}
 use Rattle.windows.specs.Supplied.{MayBeOff}
-use Rattle.windows.proofs.OffFacts.{off_same}
+use Rattle.simulator.proofs.SameAnswers.{off_same}
 use Rattle.simulator.specs.Kept.{IsKeptAt, HasCuts, run_of, moment_of, world_by}
 use Rattle.simulator.proofs.ArrivalFacts.{lawful_world, counts_promised}
 use Rattle.simulator.proofs.WindowFacts.{count_low, last_count, one_at_most}

@@ -1,5 +1,5 @@
 use Rattle.std.proofs.Common.{ℕ, ◌<◌, ◌+◌, ◌-◌}
-use Rattle.abstract_rta.specs.Meeting.{MeetsEnd}
+use Rattle.demand.specs.Meeting.{MeetsEnd}
 use Rattle.solver.proofs.searches.least_end.Given as goal
 
 abbrev pub invariant-loop-end : goal.invariant-loop-end

@@ -1,5 +1,5 @@
 use Rattle.std.proofs.Common.{ℕ, ◌<◌, ◌≤◌, ◌+◌, ◌-◌}
-use Rattle.abstract_rta.specs.Meeting.{IsWindow}
+use Rattle.demand.specs.Meeting.{IsWindow}
 use Rattle.solver.proofs.searches.least_window.Given as goal
 
 abbrev pub invariant-loop-window : goal.invariant-loop-window

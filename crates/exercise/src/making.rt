@@ -1,7 +1,7 @@
 //! The sheet that a seed makes.
 ghost use Rattle.std.specs.Prelude.{◌≡◌, ◌+◌, ◌*◌, ◌%◌, ◌≤◌, ◌<◌, IfOk};
 ghost use Rattle.simulated_run.specs.Words.{word, next};
-ghost use Rattle.generated_sheet.specs.GeneratedSheet.{cut_by, curve_of, halves as halves_of, task_by, generated_sheet};
+ghost use Rattle.exercise.specs.GeneratedSheet.{cut_by, curve_of, halves as halves_of, task_by, generated_sheet};
 
 use curve::{Prefix, Step};
 use lists::{Items, Text};

@@ -1,7 +1,7 @@
 use Rattle.std.specs.Prelude.{◌≡◌, ◌*◌}
 use Rattle.simulated_run.specs.Words.{after}
-use Rattle.generated_sheet.specs.GeneratedSheet.{first_tasks}
-use Rattle.generated_sheet.proofs.making.make_sheet.Given as goal
+use Rattle.exercise.specs.GeneratedSheet.{first_tasks}
+use Rattle.exercise.proofs.making.make_sheet.Given as goal
 
 abbrev pub invariant-loop-i : goal.invariant-loop-i
 invariant-loop-i l = record {

@@ -10,7 +10,8 @@ use Rattle.lists.specs.Ranges.{is_between}
 use Rattle.curve.specs.Validity.{IsCurve}
 use Rattle.task_sheet.specs.Rules.{is_name, is_positive, are_positive}
 use Rattle.task_sheet.specs.Sheets.{CutFits, IsTask}
-use Rattle.generated_sheet.specs.GeneratedSheet.{halves, cut_by, curve_of, task_by}
+use Rattle.task_sheet.proofs.RuleFacts.{positive_from}
+use Rattle.exercise.specs.GeneratedSheet.{halves, cut_by, curve_of, task_by}
 
 pub between : (low high n : ℕ) → low ≤ n → n ≤ high → is_between low high n ≡ true
 between low high n l h = and_from _ _ (le-leb low n l) (le-leb n high h)
@@ -37,15 +38,12 @@ curve_valid period l h = record {
   within = l;
 }
 
-positive : (n : ℕ) → 1 ≤ n → n ≤ 1000000000 → is_positive n ≡ true
-positive n l h = between 1 1000000000 n l h
-
 halves_fit : (cost : ℕ) → 1 ≤ cost → cost ≤ 1000000000 → (are_positive 1000 (halves cost) ≡ true) × (sum (halves cost) ≡ cost)
 halves_fit cost l h = elim (cases_eq cost 1) [
   | inl e ↦ rw (eq-eqb cost 1 e) (refl, sym e)
   | inr ne ↦
-      let first : is_positive (cost / 2) ≡ true = positive (cost / 2) (omega arith) (omega arith) in
-      let second : is_positive (cost - cost / 2) ≡ true = positive (cost - cost / 2) (omega arith) (omega arith) in
+      let first : is_positive (cost / 2) ≡ true = positive_from (cost / 2) (omega arith) (omega arith) in
+      let second : is_positive (cost - cost / 2) ≡ true = positive_from (cost - cost / 2) (omega arith) (omega arith) in
       rw (ne_eqb cost 1 ne) (and_from _ _ refl (and_from _ _ first (and_from _ _ second refl)), omega arith)
 ]
 

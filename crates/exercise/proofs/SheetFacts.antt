@@ -8,9 +8,9 @@ use Rattle.task_sheet.specs.declared.tasks.Task.{Task}
 use Rattle.task_sheet.specs.Sheets.{parts_of, no_task, task_at, IsTask, IsValidSheet}
 use Rattle.simulated_run.specs.Words.{word, next, after}
 use Rattle.simulated_run.proofs.GrowthFacts.{length_more}
-use Rattle.generated_sheet.specs.GeneratedSheet.{scale_of, cost_of, period_of, task_by, generated_task, first_tasks, generated_sheet}
-use Rattle.generated_sheet.proofs.WordFacts.{after_one, scale_high, cost_low, cost_high, period_low, period_high}
-use Rattle.generated_sheet.proofs.TaskFacts.{task_valid, names_differ}
+use Rattle.exercise.specs.GeneratedSheet.{scale_of, cost_of, period_of, task_by, generated_task, first_tasks, generated_sheet}
+use Rattle.exercise.proofs.WordFacts.{after_one, scale_high, cost_low, cost_high, period_low, period_high}
+use Rattle.exercise.proofs.TaskFacts.{task_valid, names_differ}
 
 pub tasks_count : (seed n k : ℕ) → length (first_tasks seed n k) ≡ k
 tasks_count seed n zero = refl

@@ -3,7 +3,7 @@ use Rattle.std.proofs.Common.{◌≡◌, ℕ, zero, suc, ◌+◌, ◌*◌, ◌�
 use Rattle.std.proofs.lemmas.Nat.{mod_below}
 use Rattle.std.proofs.Math.Nat.{mul-le-mul_left}
 use Rattle.simulated_run.specs.Words.{word, next, after}
-use Rattle.generated_sheet.specs.GeneratedSheet.{scale_of, cost_of, period_of}
+use Rattle.exercise.specs.GeneratedSheet.{scale_of, cost_of, period_of}
 
 -- one word more
 pub after_more : (n state : ℕ) → after (suc n) state ≡ next (after n state)

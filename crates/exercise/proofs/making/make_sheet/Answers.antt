@@ -2,9 +2,9 @@ use Rattle.std.proofs.Common.{◌∙◌, arith, ap, sym, subst}
 use Rattle.simulated_run.specs.Words.{next}
 use Rattle.task_sheet.specs.SheetParts.{SheetParts}
 use Rattle.task_sheet.specs.Sheets.{IsValidSheet}
-use Rattle.generated_sheet.proofs.WordFacts.{after_two}
-use Rattle.generated_sheet.proofs.SheetFacts.{task_more, sheet_from, sheet_valid}
-use Rattle.generated_sheet.proofs.making.make_sheet.Goals as goal
+use Rattle.exercise.proofs.WordFacts.{after_two}
+use Rattle.exercise.proofs.SheetFacts.{task_more, sheet_from, sheet_valid}
+use Rattle.exercise.proofs.making.make_sheet.Goals as goal
 
 pub loop-i-preserved : goal.loop-i-preserved
 loop-i-preserved c = record {

@@ -1,7 +1,5 @@
 use Rattle.std.proofs.Common.{◌≡◌, ℕ, zero, suc, ◌+◌, ◌-◌, ◌*◌, ◌<◌, ◌≤◌, ◌≢◌, ◌==◌, min, Bool, true, false, cond, not, length, refl, sym, ap, inl, inr, arith, add-suc, add-zero, add-one, eq-eqb}
-use Rattle.std.specs.Prelude.{ℤ, pos, negsuc, ◌≤ℤ◌}
 use Rattle.std.proofs.lemmas.Bool.{cases_lt, and_from, and_parts, eqb-false, ne_eqb, not-true}
-use Rattle.std.proofs.lemmas.Int.{ints}
 use Rattle.std.proofs.Math.Nat.{mul-le-mul_left}
 use Rattle.lists.proofs.SumFacts.{sum_le, max_at_most}
 use Rattle.curve.specs.CurveValue.{Curve}
@@ -15,15 +13,11 @@ use Rattle.policy.specs.declared.keys.Cap.TheVariants.{Nothing, At, All}
 use Rattle.policy.specs.Keys.{not_below_zero}
 use Rattle.policy.specs.PolicyLaws.{GrowsTo, IsLawfulPolicy}
 use Rattle.policy.specs.PolicyMeaning.{PolicyMeaning}
+use Rattle.policy.proofs.KeyFacts.{floor_mono}
 use Rattle.preemption.specs.CutMeaning.{CutMeaning}
 use Rattle.demand.specs.Demand.{capped_count, own_of, others_of, blocking_of, need_of}
-use Rattle.search_space.specs.Points.{cap_count, IsSame}
-use Rattle.abstract_rta.specs.Meeting.{MeetsEnd, MeetsBound, MeetsAt}
-
-floor_mono : (c d : ℤ) → c ≤ℤ d → not_below_zero c ≤ not_below_zero d
-floor_mono (pos a) (pos b) h = omega (arith, ints)
-floor_mono (pos a) (negsuc b) h = absurd (omega (arith, ints))
-floor_mono (negsuc a) d h = omega arith
+use Rattle.policy.specs.Offsets.{cap_count, IsSame}
+use Rattle.demand.specs.Meeting.{MeetsEnd, MeetsBound, MeetsAt}
 
 -- where the whole count stays, so does its part up to x
 same_part : (curve : Curve) → IsCurve curve → (low mid high x : ℕ) → low ≤ mid → mid ≤ high → alpha_of curve low ≡ alpha_of curve high →

@@ -1,9 +1,10 @@
+-- K3 to K8 for one task: its window, and the ends and offsets at which its bound is judged.
 use Rattle.std.specs.Prelude.{◌≡◌, ℕ, ◌+◌, ◌-◌, ◌<◌, ◌≤◌, Option, Some, None, List, [], ◌∷◌}
 use Rattle.task_sheet.specs.SheetParts.{SheetParts}
 use Rattle.policy.specs.PolicyMeaning.{PolicyMeaning}
 use Rattle.preemption.specs.CutMeaning.{CutMeaning}
 use Rattle.demand.specs.Demand.{need_of, rest_of, window_need_of}
-use Rattle.search_space.specs.Points.{IsSame}
+use Rattle.policy.specs.Offsets.{IsSame}
 
 -- K3: the supply of the window covers the demand of the task's class within it
 pub record IsWindow (p : PolicyMeaning) (m : CutMeaning) (sbf : ℕ → ℕ) (sheet : SheetParts) (i window : ℕ) : Type 0 where

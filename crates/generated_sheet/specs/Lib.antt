@@ -1,2 +1,0 @@
-pub mod GeneratedSheet
-pub mod Laws

@@ -1,4 +1,6 @@
-pub mod Keys
+pub mod Setting
+pub mod Quiet
+pub mod Service
 pub mod Windows
 pub mod Caps
 pub mod Classes

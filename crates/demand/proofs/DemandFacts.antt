@@ -62,7 +62,7 @@ unless_le : (b : Bool) (w x : ℕ) → w ≤ x → cond b 0 w ≤ cond b 0 x
 unless_le true w x h = omega arith
 unless_le false w x h = h
 
-where_le : (b : Bool) (w x : ℕ) → w ≤ x → cond b w 0 ≤ cond b x 0
+pub where_le : (b : Bool) (w x : ℕ) → w ≤ x → cond b w 0 ≤ cond b x 0
 where_le true w x h = h
 where_le false w x h = omega arith
 

@@ -41,7 +41,8 @@ pub windowed : (b : Bool) (curve : Curve) → IsCurve curve → (c l : ℕ) → 
 windowed true curve ok c l = omega arith
 windowed false curve ok c l = omega (arith, ap (λ (w : ℕ). c * w) (alpha_zero curve ok))
 
-pub masked : (b : Bool) (curve : Curve) → IsCurve curve → (cost a x : ℕ) (c : Cap) → cond b 0 (cost * alpha_of curve (cond b (a + 1) (cap_window c x))) ≤ cond b 0 (cost * capped_count curve c x)
+pub masked : (b : Bool) (curve : Curve) → IsCurve curve → (cost a x : ℕ) (c : Cap) →
+    cond b 0 (cost * alpha_of curve (cond b (a + 1) (cap_window c x))) ≤ cond b 0 (cost * capped_count curve c x)
 masked true curve ok cost a x c = omega arith
 masked false curve ok cost a x c = mul-le-mul_left cost (count_within curve ok c x)
 

@@ -67,8 +67,8 @@ module _ (g : Setting) (i : ℕ) (in_range : i < length g.sheet.tasks) where
         let chosen = in_window (class_window g i l) s g.run in
         let is_chosen : (v k : ℕ) → s ≤ v → v < s + l → tick_at g.run v ≡ Runs k → of_class g i k ≡ true → chosen k ≡ true =
         λ v k b c r inside.
-            let from = inside_since g (of_class g i) s (s + l) stretch v k b c r inside in
-            window_from (class_window g i l) s g.run k from (omega (arith, (ran g v k (omega arith) r).arrived, ap (λ (b : Bool). cond b l 0) inside)) in
+        let from = inside_since g (of_class g i) s (s + l) stretch v k b c r inside in
+        window_from (class_window g i l) s g.run k from (omega (arith, (ran g v k (omega arith) r).arrived, ap (λ (b : Bool). cond b l 0) inside)) in
         let enough : g.sbf (s + l - s) ≤ class_delay g i + served g chosen (s + l) =
         supply_served g (of_class g i) s (s + l) class_up stretch chosen is_chosen _ (λ k b o n. delay_bound k b o) in
         let cut = g.laws.cut (job_at g.run last.job).task (of_sheet g last.job last.listed) in

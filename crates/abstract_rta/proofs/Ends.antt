@@ -71,11 +71,12 @@ module _ (p : PolicyMeaning) (m : CutMeaning) (sbf : ℕ → ℕ) (sheet : Sheet
         })
     | inr reached ↦
         let rest = chosen qs q a meet.1 reached in
+        let later : first.0 ≤ (point_at (q ∷ qs) rest.point).0 = omega (arith, meet.0.next, rest.greatest 0 (omega arith) reached) in
         rw (le-leb q.0 a reached) (record {
           point = suc rest.point;
           listed = omega (arith, rest.listed);
           reached = rest.reached;
-          greatest = λ k b l. still_greatest first (q ∷ qs) a (point_at (q ∷ qs) rest.point).0 k (omega (arith, meet.0.next, rest.greatest 0 (omega arith) reached)) rest.greatest b l;
+          greatest = λ k b l. still_greatest first (q ∷ qs) a (point_at (q ∷ qs) rest.point).0 k later rest.greatest b l;
           end = rest.end;
         })
   ]

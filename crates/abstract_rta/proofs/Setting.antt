@@ -1,4 +1,4 @@
--- What the steps of the bound share: a compliant run of a valid sheet, and the laws that the bound rests on.
+-- What all steps of docs/ANALYSIS.md up to "Completion" share: a compliant run of a valid sheet, and the laws that the bound rests on.
 use Rattle.std.proofs.Common.{◌≡◌, ℕ, ◌<◌, Bool, true, cond, length}
 use Rattle.lists.specs.Sums.{sum_below}
 use Rattle.task_sheet.specs.SheetParts.{SheetParts}

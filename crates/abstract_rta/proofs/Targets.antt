@@ -85,11 +85,15 @@ module _ (g : Setting) (i j s a x : ℕ) (target : IsTarget g i j s a) where
       window_from urgent_window s g.run k since (elim (cases_eq task i) [
         | inl e ↦ elim (cases_lt (job_at g.run k).arrival (s + (a + 1))) [
           | inl h ↦ omega (arith, h, ap (λ (w : Bool). cond w (a + 1) (cap_window (g.p.cap g.sheet i task a) x)) (eq-eqb task i e))
-          | inr h ↦ absurd (omega (arith, in_order g v k j long r target.listed (target.is_i ∙ sym e) (omega (arith, target.arrives)), less, service_le g.run j v u (omega arith) stretch.long))
+          | inr h ↦
+              let done = in_order g v k j long r target.listed (target.is_i ∙ sym e) (omega (arith, target.arrives)) in
+              absurd (omega (arith, done, less, service_le g.run j v u (omega arith) stretch.long))
         ]
         | inr ne ↦
-            let capped = g.laws.policy.capped s a (job_at g.run k) (job_at g.run j) (of_sheet g k p.listed) (of_sheet g j target.listed) (λ e. ne (e ∙ target.is_i)) target.arrives since t in
-            let admits : Admits (g.p.cap g.sheet i task a) s (job_at g.run k).arrival = subst (λ w. Admits (g.p.cap g.sheet w task a) s (job_at g.run k).arrival) target.is_i capped in
+            let capped = g.laws.policy.capped s a (job_at g.run k) (job_at g.run j) (of_sheet g k p.listed) (of_sheet g j target.listed)
+            (λ e. ne (e ∙ target.is_i)) target.arrives since t in
+            let admits : Admits (g.p.cap g.sheet i task a) s (job_at g.run k).arrival =
+            subst (λ w. Admits (g.p.cap g.sheet w task a) s (job_at g.run k).arrival) target.is_i capped in
             let in_cap = ap (λ (w : Bool). cond w (a + 1) (cap_window (g.p.cap g.sheet i task a) x)) (ne_eqb task i ne) in
             let soon : v < s + x = early (λ e. ne (ap (λ (w : ℕ). (job_at g.run w).task) e ∙ target.is_i)) in
             omega (arith, admitted (g.p.cap g.sheet i task a) s (job_at g.run k).arrival x admits since (omega (arith, p.arrived, soon)), in_cap)
@@ -122,7 +126,8 @@ module _ (g : Setting) (i j s a x : ℕ) (target : IsTarget g i j s a) where
       (blocking_of g.p g.m g.sheet i a) block_bound in
       let window : in_window urgent_window s g.run j ≡ true = window_from urgent_window s g.run j (omega (arith, target.arrives))
       (omega (arith, target.arrives, ap (λ (w : Bool). cond w (a + 1) (cap_window (g.p.cap g.sheet i (job_at g.run j).task a) x)) (eq-eqb (job_at g.run j).task i target.is_i))) in
-      let demand = demand_gap g urgent_window s u j gap stretch.long target.listed window (subst (λ w. service_of g.run j u + gap ≤ (task_at g.sheet w).cost) (sym target.is_i) lacks) in
+      let within = subst (λ w. service_of g.run j u + gap ≤ (task_at g.sheet w).cost) (sym target.is_i) lacks in
+      let demand = demand_gap g urgent_window s u j gap stretch.long target.listed window within in
       omega (arith, enough, demand, urgent_demand)
 
   laws : IsLawfulCut g.m (task_at g.sheet i)
@@ -132,7 +137,8 @@ module _ (g : Setting) (i j s a x : ℕ) (target : IsTarget g i j s a) where
   fits = subst (λ w. g.m.fits (task_at g.sheet w) (job_at g.run j) ≡ true) target.is_i (fit_of g j target.listed)
 
   -- at the end x the job has its threshold, if it is not done
-  at_end : MeetsEnd g.p g.m g.sbf g.sheet i a x → IsBusy g.run (urgent g j) s (s + x) → service_of g.run j (s + x) < (job_at g.run j).cost → g.m.threshold (task_at g.sheet i) ≤ service_of g.run j (s + x)
+  at_end : MeetsEnd g.p g.m g.sbf g.sheet i a x → IsBusy g.run (urgent g j) s (s + x) → service_of g.run j (s + x) < (job_at g.run j).cost →
+      g.m.threshold (task_at g.sheet i) ≤ service_of g.run j (s + x)
   unfolding need_of own_of
   at_end meets stretch less = elim (cases_lt (service_of g.run j (s + x)) (g.m.threshold (task_at g.sheet i))) [
     | inr reached ↦ reached
@@ -159,7 +165,9 @@ module _ (g : Setting) (i j s a x : ℕ) (target : IsTarget g i j s a) where
       let reached = at_end end (urgent_stretch (s + x) (omega arith) (omega (arith, within.end)) (omega arith) quiet late at_x) at_x in
       let early : (v k : ℕ) → s ≤ v → v < u → tick_at g.run v ≡ Runs k → k ≢ j → v < s + x = λ v k b c r ne. elim (cases_lt v (s + x)) [
         | inl l ↦ l
-        | inr l ↦ absurd (ne (last_part v k (omega arith) (omega (arith, reached, service_le g.run j (s + x) v l (omega arith))) (omega (arith, less, service_le g.run j v u (omega arith) long)) r))
+        | inr l ↦
+            let had : g.m.threshold (task_at g.sheet i) ≤ service_of g.run j v = omega (arith, reached, service_le g.run j (s + x) v l (omega arith)) in
+            absurd (ne (last_part v k (omega arith) had (omega (arith, less, service_le g.run j v u (omega arith) long)) r))
       ] in
       let used = supply_used u 1 (urgent_stretch u (omega arith) long (omega arith) quiet late less) less early (omega (arith, less, laws.cost_bound (job_at g.run j) fits)) in
       omega (arith, used, within.enough, ap g.sbf (window_length s (a + bound)))

@@ -48,7 +48,8 @@ module _ (cost w : ℕ → ℕ) (s n : ℕ) (run : Run) (tasks : (k : ℕ) → k
               arith,
               ih,
               ap (λ (b : Bool). cond b (cost task) 0) t,
-              sum_gap (part m) (part (suc m)) n task (cost task) (tasks m long) (λ o b. omega (arith, part_more m o long)) (omega (arith, part_more m task long, ap (λ (b : Bool). cost task * cond b 1 0) t)),
+              sum_gap (part m) (part (suc m)) n task (cost task) (tasks m long) (λ o b. omega (arith, part_more m o long))
+                  (omega (arith, part_more m task long, ap (λ (b : Bool). cost task * cond b 1 0) t)),
             )
       ]
 

@@ -1,4 +1,4 @@
--- Step "What runs outside", its count: each supplied tick of a busy stretch runs inside the set or outside.
+-- Step "What runs outside" of docs/ANALYSIS.md, its count: each supplied tick of a busy stretch runs inside the set or outside.
 use Rattle.std.proofs.Common.{◌≡◌, ℕ, zero, suc, ◌+◌, ◌-◌, ◌<◌, ◌≤◌, Bool, cond, not, length, refl, arith}
 use Rattle.run_model.specs.declared.run.Tick.{Tick}
 use Rattle.run_model.specs.declared.run.Tick.TheVariants.{Off, Idle, Runs}

@@ -1,4 +1,4 @@
--- Step "What runs outside", its one job: what runs outside the set is the rest of one segment that had begun before the stretch.
+-- Step "What runs outside" of docs/ANALYSIS.md, its one job: what runs outside the set is the rest of one segment that had begun before the stretch.
 use Rattle.std.proofs.Common.{◌≡◌, ℕ, zero, suc, ◌+◌, ◌-◌, ◌<◌, ◌≤◌, ◌≢◌, Bool, true, false, length, sym, ◌∙◌, ap, subst, inl, inr, arith, add-suc, add-zero}
 use Rattle.std.proofs.lemmas.Bool.{cases_lt, cases_Bool}
 use Rattle.lists.proofs.SearchFacts.{last_up_to}
@@ -14,6 +14,7 @@ use Rattle.busy_window.proofs.Setting.{Setting}
 
 -- a busy stretch [s, u), of which the law on its supplied ticks is known, in a run whose prefixes keep theirs
 module _ (g : Setting) (within_cost : ServedWithinCost g.m) (since_arrival : ServedSinceArrival g.m)
+    (begun : (k t : ℕ) → k < length g.run.jobs → can_cut g.m g.sheet g.run k t ≡ false → 0 < service_of g.run k t)
     (set : ℕ → Bool) (s u : ℕ) (stretch : IsBusy g.run set s u) (inside : EachRunsInside g.m g.sheet g.run set s u) where
   -- the longest segment of the task of job k
   abbrev segment_of : ℕ → ℕ
@@ -81,21 +82,10 @@ module _ (g : Setting) (within_cost : ServedWithinCost g.m) (since_arrival : Ser
             omega (arith, r.more, ih, ne)
       ])
 
-  -- what cannot be cut has begun
-  has_begun : (k : ℕ) → k < length g.run.jobs → can_cut g.m g.sheet g.run k s ≡ false → 0 < service_of g.run k s
-  has_begun k l f = elim (cases_lt 0 (service_of g.run k s)) [
-    | inl p ↦ p
-    | inr z ↦
-        let e : service_of g.run k s ≡ 0 = omega arith in
-        let t = (g.cut (job_at g.run k).task (of_sheet k l)).cut_first (job_at g.run k) (g.ok.valid.jobs k l).fit in
-        let x = ap (cut_at k) e in
-        absurd (cc)
-  ]
-
   arrives_early : (v k : ℕ) → s ≤ v → v < u → tick_at g.run v ≡ Runs k → set k ≡ false → (job_at g.run k).arrival < s
   arrives_early v k a b r o =
-      let begun = has_begun k (running v k b r).listed (uncut_from s v k (omega arith) a b o r) in
-      since_arrival g.sheet g.run g.ok.valid k s (omega (arith, stretch.long)) begun
+      let service = begun k s (running v k b r).listed (uncut_from s v k (omega arith) a b o r) in
+      since_arrival g.sheet g.run g.ok.valid k s (omega (arith, stretch.long)) service
 
   -- the place of the last cut before the stretch, and of the next one
   ends_soon : (v k : ℕ) → s ≤ v → v < u → tick_at g.run v ≡ Runs k → set k ≡ false → suc (service_of g.run k u) ≤ service_of g.run k s + segment_of k
@@ -106,15 +96,15 @@ module _ (g : Setting) (within_cost : ServedWithinCost g.m) (since_arrival : Ser
       let fit = (g.ok.valid.jobs k l).fit in
       let no_cut : cut_at k now ≡ false = uncut_from s v k (omega arith) a b o r in
       let last = last_up_to (λ w. cut_at k w ≡ true) (λ w. cut_at k w ≡ false) (λ w. cases_Bool (cut_at k w)) (laws.cut_first (job_at g.run k) fit) now in
-      let begun : last.0 ≢ now = λ e. absurd (let x = ap (cut_at k) e in let t = last.2 in cc) in
+      let earlier : last.0 ≢ now = λ e. absurd (let x = ap (cut_at k) e in let t = last.2 in cc) in
       let cost = within_cost g.sheet g.run g.ok.valid k s (omega (arith, stretch.long)) in
-      let next = laws.cut_next (job_at g.run k) last.0 fit last.2 (omega (arith, last.1, begun, cost)) in
+      let next = laws.cut_next (job_at g.run k) last.0 fit last.2 (omega (arith, last.1, earlier, cost)) in
       let above : now ≤ next.at = elim (cases_lt next.at now) [
         | inr c ↦ c
         | inl c ↦ absurd {A = now ≤ next.at} (let f = last.3 next.at next.later (omega arith) in let t = next.cut in cc)
       ] in
       let e : s + (u - s) ≡ u = omega arith in
-      omega (arith, stays_within k next.at (u - s) o next.cut above (omega arith), ap (service_of g.run k) e, next.near, last.1, begun)
+      omega (arith, stays_within k next.at (u - s) o next.cut above (omega arith), ap (service_of g.run k) e, next.near, last.1, earlier)
 
   pub outsider : EachIsOutsider g.m g.sheet g.run set s u
   outsider t k a b r o =

@@ -1,4 +1,4 @@
--- What the steps on busy stretches share: a compliant run, and the laws of the cuts of its tasks.
+-- What the proofs of step "What runs outside" of docs/ANALYSIS.md share: a compliant run, and the laws of the cuts of its tasks.
 use Rattle.std.proofs.Common.{ℕ, ◌<◌, length}
 use Rattle.task_sheet.specs.SheetParts.{SheetParts}
 use Rattle.task_sheet.specs.Sheets.{task_at}

@@ -1,4 +1,4 @@
--- Step "What runs outside": a supplied tick of a busy stretch runs a job of the set, or one outside that cannot be cut.
+-- Step "What runs outside" of docs/ANALYSIS.md, its ticks: a supplied tick of a busy stretch runs a job of the set, or one outside that cannot be cut.
 use Rattle.std.proofs.Common.{◌≡◌, ℕ, ◌<◌, ◌≤◌, Bool, true, false, length, inl, inr, arith}
 use Rattle.std.proofs.lemmas.Bool.{cases_Bool}
 use Rattle.run_model.specs.declared.run.Tick.TheVariants.{Idle, Runs}

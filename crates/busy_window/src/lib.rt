@@ -10,7 +10,7 @@ ghost use Rattle.busy_window.specs.Busy.{RunsInside, OneOutsider, EnoughInside};
 
 use policy::Policy;
 use preemption::Preemption;
-use schedule_laws::{served_since_arrival, served_within_cost};
+use schedule_laws::{served_since_arrival, served_within_cost, uncut_has_begun};
 use supply::Supply;
 
 /// A tick of a busy stretch that is not off runs a job of the set, or one outside that cannot be cut.
@@ -26,6 +26,7 @@ pub fn one_outsider<P: Policy, M: Preemption, S: Supply>()
     runs_inside::<P, M, S>();
     served_within_cost::<M>();
     served_since_arrival::<M>();
+    uncut_has_begun::<M>();
 }
 
 /// The ticks of a busy stretch that run jobs of the set are as many as the supply promises, less those

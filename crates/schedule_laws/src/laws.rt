@@ -1,5 +1,5 @@
 //! The tests decide which runs comply, and what holds of every prefix of a valid run.
-ghost use Rattle.schedule_laws.specs.Prefixes.{ServedWithinCost, ServedSinceArrival};
+ghost use Rattle.schedule_laws.specs.Prefixes.{ServedWithinCost, ServedSinceArrival, BegunWhereUncut};
 ghost use Rattle.schedule_laws.specs.Tests.{DecideCrowds, DecideCompliance};
 
 use policy::Policy;
@@ -25,4 +25,9 @@ pub fn served_within_cost<M: Preemption>()
 /// In a valid run a job that has had service before a tick arrived before that tick.
 pub fn served_since_arrival<M: Preemption>()
     ensures { ServedSinceArrival M.cuts }
+{}
+
+/// In a valid run a job that cannot be cut at a tick has had service before it.
+pub fn uncut_has_begun<M: Preemption>()
+    ensures { BegunWhereUncut M.cuts }
 {}

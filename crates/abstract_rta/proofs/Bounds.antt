@@ -1,17 +1,15 @@
+-- Steps "Quiet ticks" to "Completion" of docs/ANALYSIS.md, put together: the law `bound`.
 use Rattle.std.proofs.Common.{◌≡◌, ℕ, ◌+◌, ◌-◌, ◌<◌, ◌≤◌, true, length, ap, subst, inl, inr, arith}
 use Rattle.std.proofs.lemmas.Bool.{cases_lt}
 use Rattle.task_sheet.specs.SheetParts.{SheetParts}
-use Rattle.task_sheet.specs.Sheets.{IsValidSheet, task_at}
-use Rattle.policy.specs.PolicyLaws.{IsLawfulPolicy}
 use Rattle.policy.specs.PolicyMeaning.{PolicyMeaning}
-use Rattle.preemption.specs.CutLaws.{IsLawfulCut}
 use Rattle.preemption.specs.CutMeaning.{CutMeaning}
 use Rattle.run_model.specs.Runs.{job_at, service_of, IsDone}
 use Rattle.schedule_laws.specs.Bounded.{IsBounded}
 use Rattle.demand.specs.Meeting.{IsWindow, MeetsAt}
 use Rattle.busy_window.specs.Busy.{IsQuiet}
-use Rattle.busy_window.proofs.Quiet.{last_quiet}
-use Rattle.busy_window.proofs.Setting.{Setting, setting_of, of_sheet}
+use Rattle.abstract_rta.proofs.Setting.{BoundLaws, Setting, setting_of, of_sheet}
+use Rattle.abstract_rta.proofs.Quiet.{last_quiet}
 use Rattle.abstract_rta.proofs.Classes.{of_class, class_short}
 use Rattle.abstract_rta.proofs.Targets.{urgent, in_time}
 
@@ -20,7 +18,7 @@ module _ (g : Setting) (i window bound : ℕ) (in_range : i < length g.sheet.tas
   class_quiet : (j t : ℕ) → j < length g.run.jobs → (job_at g.run j).task ≡ i → IsQuiet g.run (of_class g i) t → IsQuiet g.run (urgent g j) t
   unfolding of_class urgent
   class_quiet j t listed is_i quiet k b u =
-      let class = g.lawful.higher_class (job_at g.run k) (job_at g.run j) (of_sheet g k b) (of_sheet g j listed) u in
+      let class = g.laws.policy.higher_class (job_at g.run k) (job_at g.run j) (of_sheet g k b) (of_sheet g j listed) u in
       quiet k b (subst (λ w. g.p.class g.sheet w (job_at g.run k).task ≡ true) is_i class)
 
   done_in_time : (ends : ℕ → ℕ) → ((a : ℕ) → a < window → MeetsAt g.p g.m g.sbf g.sheet i bound a (ends a)) →
@@ -36,7 +34,7 @@ module _ (g : Setting) (i window bound : ℕ) (in_range : i < length g.sheet.tas
           | inr after ↦ after
           | inl before ↦
               let late = last.3 of_i.0 before of_i.1 in
-              absurd (omega (arith, class_quiet j of_i.0 listed is_i of_i.2 late.job late.listed late.inside late.earlier, late.not_done))
+              absurd (omega (arith, class_quiet j of_i.0 listed is_i of_i.2 late.job late.listed late.is.inside late.is.earlier, late.is.not_done))
         ] in
         let a = arrival - last.0 in
         let meet : MeetsAt g.p g.m g.sbf g.sheet i bound a (ends a) = meets a (omega (arith, short, since, last.1, enough.positive)) in
@@ -46,9 +44,8 @@ module _ (g : Setting) (i window bound : ℕ) (in_range : i < length g.sheet.tas
   ]
 
 -- the theorem over plain meanings, with a function from offsets to ends
-pub bounded : (p : PolicyMeaning) (m : CutMeaning) (sbf : ℕ → ℕ) (sheet : SheetParts) →
-    IsValidSheet sheet → IsLawfulPolicy p sheet → ((o : ℕ) → o < length sheet.tasks → IsLawfulCut m (task_at sheet o)) →
+pub bounded : (p : PolicyMeaning) (m : CutMeaning) (sbf : ℕ → ℕ) (sheet : SheetParts) → BoundLaws p m sbf sheet →
     (i window bound : ℕ) (ends : ℕ → ℕ) → i < length sheet.tasks → IsWindow p m sbf sheet i window →
     ((a : ℕ) → a < window → MeetsAt p m sbf sheet i bound a (ends a)) → IsBounded p m sbf sheet i bound
-bounded p m sbf sheet valid lawful cut i window bound ends in_range enough meets run ok j listed is_i long =
-    done_in_time (setting_of p m sbf sheet valid lawful cut run ok) i window bound in_range enough ends meets j listed is_i long
+bounded p m sbf sheet laws i window bound ends in_range enough meets run ok j listed is_i long =
+    done_in_time (setting_of p m sbf sheet laws run ok) i window bound in_range enough ends meets j listed is_i long

@@ -1,3 +1,4 @@
+-- For step "Service at the end" of docs/ANALYSIS.md: what a cap admits, and the greatest of the numbers that pass.
 use Rattle.std.proofs.Common.{◌≡◌, ℕ, ◌+◌, ◌*◌, ◌<◌, ◌≤◌, min, Bool, true, false, cond, ap, arith}
 use Rattle.std.specs.Prelude.{ℤ, pos, negsuc, ◌<ℤ◌, ◌+ℤ◌}
 use Rattle.std.proofs.lemmas.Int.{ints}
@@ -40,7 +41,8 @@ pub windowed : (b : Bool) (curve : Curve) → IsCurve curve → (c l : ℕ) → 
 windowed true curve ok c l = omega arith
 windowed false curve ok c l = omega (arith, ap (λ (w : ℕ). c * w) (alpha_zero curve ok))
 
-pub masked : (b : Bool) (curve : Curve) → IsCurve curve → (cost a x : ℕ) (c : Cap) → cond b 0 (cost * alpha_of curve (cond b (a + 1) (cap_window c x))) ≤ cond b 0 (cost * capped_count curve c x)
+pub masked : (b : Bool) (curve : Curve) → IsCurve curve → (cost a x : ℕ) (c : Cap) →
+    cond b 0 (cost * alpha_of curve (cond b (a + 1) (cap_window c x))) ≤ cond b 0 (cost * capped_count curve c x)
 masked true curve ok cost a x c = omega arith
 masked false curve ok cost a x c = mul-le-mul_left cost (count_within curve ok c x)
 

@@ -1,3 +1,4 @@
+-- Step "From listed points to every offset" of docs/ANALYSIS.md, the list: the end of the greatest listed offset up to an offset serves there.
 use Rattle.std.proofs.Common.{◌≡◌, ℕ, zero, suc, ◌+◌, ◌-◌, ◌<◌, ◌≤◌, Some, None, List, [], ◌∷◌, cond, nat_le, length, get_or, refl, inl, inr, arith}
 use Rattle.std.proofs.lemmas.Bool.{cases_lt, le-leb, lt-leb}
 use Rattle.task_sheet.specs.SheetParts.{SheetParts}
@@ -5,9 +6,11 @@ use Rattle.task_sheet.specs.Sheets.{IsValidSheet}
 use Rattle.policy.specs.PolicyLaws.{IsLawfulPolicy}
 use Rattle.policy.specs.PolicyMeaning.{PolicyMeaning}
 use Rattle.preemption.specs.CutMeaning.{CutMeaning}
+use Rattle.policy.specs.Offsets.{IsSame}
+use Rattle.search_space.specs.PointLaws.{AcrossGap}
 use Rattle.demand.specs.Meeting.{MeetsEnd, MeetsBound, MeetsAt, PointsMeet}
-use Rattle.demand.proofs.Gaps.{across}
 use Rattle.abstract_rta.specs.Bounds.{point_at, IsEndFor, HasEnds}
+use Rattle.abstract_rta.proofs.Gaps.{meets_across}
 
 -- the end of the last point whose offset is at most a, where offsets rise; before, where there is none
 abbrev pub end_for : ℕ → List (ℕ × ℕ) → ℕ → ℕ
@@ -68,24 +71,30 @@ module _ (p : PolicyMeaning) (m : CutMeaning) (sbf : ℕ → ℕ) (sheet : Sheet
         })
     | inr reached ↦
         let rest = chosen qs q a meet.1 reached in
+        let later : first.0 ≤ (point_at (q ∷ qs) rest.point).0 = omega (arith, meet.0.next, rest.greatest 0 (omega arith) reached) in
         rw (le-leb q.0 a reached) (record {
           point = suc rest.point;
           listed = omega (arith, rest.listed);
           reached = rest.reached;
-          greatest = λ k b l. still_greatest first (q ∷ qs) a (point_at (q ∷ qs) rest.point).0 k (omega (arith, meet.0.next, rest.greatest 0 (omega arith) reached)) rest.greatest b l;
+          greatest = λ k b l. still_greatest first (q ∷ qs) a (point_at (q ∷ qs) rest.point).0 k later rest.greatest b l;
           end = rest.end;
         })
   ]
 
-  -- with the laws of the policy and a supply that never falls
-  module _ (ok : IsValidSheet sheet) (lawful : IsLawfulPolicy p sheet) (rises : (d : ℕ) → sbf d ≤ sbf (d + 1)) (in_range : i < length sheet.tasks) where
-    at_each : (points : List (ℕ × ℕ)) (first : ℕ × ℕ) (a : ℕ) → MeetsEnd p m sbf sheet i first.0 first.1 → MeetsBound p m sbf sheet i first.0 first.1 bound →
+  -- with the laws of the policy and of gaps, and a supply that never falls
+  module _ (ok : IsValidSheet sheet) (lawful : IsLawfulPolicy p sheet) (gap : AcrossGap p) (rises : (d : ℕ) → sbf d ≤ sbf (d + 1)) (in_range : i < length sheet.tasks) where
+    -- the end of the offset from serves up to the offset to
+    serves_to : (from a to x : ℕ) → from ≤ a → a < to → IsSame p sheet i from (to - 1) →
+        MeetsEnd p m sbf sheet i from x → MeetsBound p m sbf sheet i from x bound → MeetsAt p m sbf sheet i bound a x
+    serves_to = meets_across p m sheet ok lawful i in_range gap sbf rises bound
+
+    meets_each : (points : List (ℕ × ℕ)) (first : ℕ × ℕ) (a : ℕ) → MeetsEnd p m sbf sheet i first.0 first.1 → MeetsBound p m sbf sheet i first.0 first.1 bound →
         PointsMeet p m sbf sheet i window bound (Some first.0) points → first.0 ≤ a → a < window →
         MeetsAt p m sbf sheet i bound a (end_for first.1 points a)
-    at_each [] first a end within meet h l = across p m sheet ok lawful i in_range sbf rises bound first.0 a (window - 1) first.1 h (omega arith) meet end within
-    at_each (q ∷ qs) first a end within meet h l = elim (cases_lt a q.0) [
-      | inl before ↦ rw (lt-leb q.0 a before) (across p m sheet ok lawful i in_range sbf rises bound first.0 a (q.0 - 1) first.1 h (omega arith) meet.0.gap end within)
-      | inr reached ↦ rw (le-leb q.0 a reached) (at_each qs q a meet.0.end meet.0.within meet.1 reached l)
+    meets_each [] first a end within meet h l = serves_to first.0 a window first.1 h l meet end within
+    meets_each (q ∷ qs) first a end within meet h l = elim (cases_lt a q.0) [
+      | inl before ↦ rw (lt-leb q.0 a before) (serves_to first.0 a q.0 first.1 h before meet.0.gap end within)
+      | inr reached ↦ rw (le-leb q.0 a reached) (meets_each qs q a meet.0.end meet.0.within meet.1 reached l)
     ]
 
     pub has_ends : (points : List (ℕ × ℕ)) → 1 ≤ length points → PointsMeet p m sbf sheet i window bound None points → HasEnds p m sbf sheet i window bound points
@@ -96,5 +105,5 @@ module _ (p : PolicyMeaning) (m : CutMeaning) (sbf : ℕ → ℕ) (sheet : Sheet
           ends = listed (end_for first.1 points) window;
           count = listed_length (end_for first.1 points) window;
           chosen = λ a l. rw (listed_at (end_for first.1 points) window a l) (chosen points first a meet.1 (omega (arith, starts)));
-          meets = λ a l. rw (listed_at (end_for first.1 points) window a l) (at_each points first a meet.0.end meet.0.within meet.1 (omega (arith, starts)) l);
+          meets = λ a l. rw (listed_at (end_for first.1 points) window a l) (meets_each points first a meet.0.end meet.0.within meet.1 (omega (arith, starts)) l);
         }

@@ -1,7 +1,10 @@
-pub mod Keys
+pub mod Setting
+pub mod Quiet
+pub mod Service
 pub mod Windows
 pub mod Caps
 pub mod Classes
 pub mod Targets
 pub mod Bounds
+pub mod Gaps
 pub mod Ends

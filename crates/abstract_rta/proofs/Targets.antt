@@ -1,3 +1,4 @@
+-- Steps "Service at the end" and "Completion" of docs/ANALYSIS.md: a job has its threshold of service at the end, and is done by the bound.
 use Rattle.std.proofs.Common.{◌≡◌, ℕ, suc, ◌+◌, ◌-◌, ◌*◌, ◌<◌, ◌≤◌, ◌≢◌, ◌==◌, ◌&&◌, Bool, true, false, cond, not, length, refl, sym, ◌∙◌, ap, subst, inl, inr, arith, eq-eqb}
 use Rattle.std.proofs.lemmas.Bool.{cases_lt, cases_eq, and_from, ne_eqb}
 use Rattle.lists.proofs.SumFacts.{sum_le, sum_split}
@@ -5,6 +6,7 @@ use Rattle.curve.specs.Curves.{alpha_of}
 use Rattle.task_sheet.specs.Sheets.{task_at}
 use Rattle.policy.specs.Keys.{key_le}
 use Rattle.policy.specs.PolicyLaws.{Admits}
+use Rattle.policy.proofs.KeyFacts.{key_le_refl, key_le_trans}
 use Rattle.preemption.specs.CutLaws.{IsLawfulCut}
 use Rattle.run_model.specs.declared.run.Tick.TheVariants.{Runs}
 use Rattle.run_model.specs.Runs.{job_at, tick_at, service_of}
@@ -13,13 +15,11 @@ use Rattle.schedule_laws.specs.Compliance.{can_cut}
 use Rattle.demand.specs.Demand.{rest_of, own_of, others_of, blocking_of, need_of, other_of}
 use Rattle.demand.specs.Meeting.{MeetsEnd, MeetsBound}
 use Rattle.busy_window.specs.Busy.{IsUpSet, IsQuiet, IsBusy}
-use Rattle.busy_window.proofs.Quiet.{IsLate}
-use Rattle.busy_window.proofs.Setting.{Setting, ran, in_order, of_sheet, fit_of, segment_of}
-use Rattle.busy_window.proofs.Stretches.{inside_since, enough_inside}
-use Rattle.abstract_rta.proofs.Keys.{key_refl, key_trans}
+use Rattle.abstract_rta.proofs.Setting.{Setting, ran, in_order, of_sheet, fit_of, segment_of}
+use Rattle.abstract_rta.proofs.Quiet.{IsLate, still_pending}
+use Rattle.abstract_rta.proofs.Service.{inside_since, supply_served}
 use Rattle.abstract_rta.proofs.Caps.{cap_window, admitted, masked, most_at}
 use Rattle.abstract_rta.proofs.Windows.{in_window, window_from, windows_demand, demand_gap, window_length}
-use Rattle.abstract_rta.proofs.Classes.{still_pending}
 
 -- the job j of task i, which arrives a ticks after the begin s of its stretch
 pub record IsTarget (g : Setting) (i j s a : ℕ) : Type 0 where
@@ -35,7 +35,7 @@ urgent g j k = key_le (g.p.key g.sheet (job_at g.run k)) (g.p.key g.sheet (job_a
 module _ (g : Setting) (i j s a x : ℕ) (target : IsTarget g i j s a) where
   urgent_up : IsUpSet g.p g.sheet g.run (urgent g j)
   unfolding urgent
-  urgent_up = λ k n b c h e. key_trans (g.p.key g.sheet (job_at g.run k)) (g.p.key g.sheet (job_at g.run n)) (g.p.key g.sheet (job_at g.run j)) h e
+  urgent_up = λ k n b c h e. key_le_trans (g.p.key g.sheet (job_at g.run k)) (g.p.key g.sheet (job_at g.run n)) (g.p.key g.sheet (job_at g.run j)) h e
 
   urgent_window : ℕ → ℕ
   urgent_window o = cond (o == i) (a + 1) (cap_window (g.p.cap g.sheet i o a) x)
@@ -44,14 +44,14 @@ module _ (g : Setting) (i j s a x : ℕ) (target : IsTarget g i j s a) where
   earlier_urgent : (k : ℕ) → k < length g.run.jobs → (job_at g.run k).task ≡ i → (job_at g.run k).arrival ≤ s + a → urgent g j k ≡ true
   unfolding urgent
   earlier_urgent k b t h =
-      g.lawful.in_order (job_at g.run k) (job_at g.run j) (of_sheet g k b) (of_sheet g j target.listed) (t ∙ sym target.is_i) (omega (arith, target.arrives))
+      g.laws.policy.in_order (job_at g.run k) (job_at g.run j) (of_sheet g k b) (of_sheet g j target.listed) (t ∙ sym target.is_i) (omega (arith, target.arrives))
 
   block_bound : (k : ℕ) → k < length g.run.jobs → urgent g j k ≡ false → (job_at g.run k).arrival < s → segment_of g k - 1 ≤ blocking_of g.p g.m g.sheet i a
   unfolding urgent blocking_of
   block_bound k b o h =
       let task = (job_at g.run k).task in
       let other : task ≡ i → ⊥ = λ e. let t = earlier_urgent k b e (omega arith) in absurd (cc) in
-      let blocks = g.lawful.blocks s a (job_at g.run k) (job_at g.run j) (of_sheet g k b) (of_sheet g j target.listed) (λ e. other (e ∙ target.is_i)) target.arrives h o in
+      let blocks = g.laws.policy.blocks s a (job_at g.run k) (job_at g.run j) (of_sheet g k b) (of_sheet g j target.listed) (λ e. other (e ∙ target.is_i)) target.arrives h o in
       most_at (λ o. not (o == i) && g.p.may_block g.sheet i o a) (λ o. g.m.longest (task_at g.sheet o) - 1) (length g.sheet.tasks) task (of_sheet g k b)
       (and_from _ _ (ap not (ne_eqb task i other)) (subst (λ w. g.p.may_block g.sheet w task a ≡ true) target.is_i blocks))
 
@@ -64,10 +64,10 @@ module _ (g : Setting) (i j s a x : ℕ) (target : IsTarget g i j s a) where
     long = long;
     quiet = quiet;
     busy = λ v b c. elim (cases_lt v (s + a)) [
-      | inl before ↦ still_pending g (urgent g j) v (omega arith) (late (suc v) (omega arith) (omega arith))
+      | inl before ↦ still_pending g.run (urgent g j) v (omega arith) (late (suc v) (omega arith) (omega arith))
       | inr after ↦ record {
         job = j;
-        inside = key_refl (g.p.key g.sheet (job_at g.run j));
+        inside = key_le_refl (g.p.key g.sheet (job_at g.run j));
         pending = record { listed = target.listed; arrived = omega (arith, target.arrives); not_done = omega (arith, less, service_le g.run j v u (omega arith) long) };
       }
     ];
@@ -80,16 +80,20 @@ module _ (g : Setting) (i j s a x : ℕ) (target : IsTarget g i j s a) where
   in_its_window u v k stretch less b c r t early =
       let long : v < length g.run.ticks = omega (arith, stretch.long) in
       let p = ran g v k long r in
-      let since = inside_since g (urgent g j) s u urgent_up stretch v k b c r t in
+      let since = inside_since g (urgent g j) s u stretch v k b c r t in
       let task = (job_at g.run k).task in
       window_from urgent_window s g.run k since (elim (cases_eq task i) [
         | inl e ↦ elim (cases_lt (job_at g.run k).arrival (s + (a + 1))) [
           | inl h ↦ omega (arith, h, ap (λ (w : Bool). cond w (a + 1) (cap_window (g.p.cap g.sheet i task a) x)) (eq-eqb task i e))
-          | inr h ↦ absurd (omega (arith, in_order g v k j long r target.listed (target.is_i ∙ sym e) (omega (arith, target.arrives)), less, service_le g.run j v u (omega arith) stretch.long))
+          | inr h ↦
+              let done = in_order g v k j long r target.listed (target.is_i ∙ sym e) (omega (arith, target.arrives)) in
+              absurd (omega (arith, done, less, service_le g.run j v u (omega arith) stretch.long))
         ]
         | inr ne ↦
-            let capped = g.lawful.capped s a (job_at g.run k) (job_at g.run j) (of_sheet g k p.listed) (of_sheet g j target.listed) (λ e. ne (e ∙ target.is_i)) target.arrives since t in
-            let admits : Admits (g.p.cap g.sheet i task a) s (job_at g.run k).arrival = subst (λ w. Admits (g.p.cap g.sheet w task a) s (job_at g.run k).arrival) target.is_i capped in
+            let capped = g.laws.policy.capped s a (job_at g.run k) (job_at g.run j) (of_sheet g k p.listed) (of_sheet g j target.listed)
+            (λ e. ne (e ∙ target.is_i)) target.arrives since t in
+            let admits : Admits (g.p.cap g.sheet i task a) s (job_at g.run k).arrival =
+            subst (λ w. Admits (g.p.cap g.sheet w task a) s (job_at g.run k).arrival) target.is_i capped in
             let in_cap = ap (λ (w : Bool). cond w (a + 1) (cap_window (g.p.cap g.sheet i task a) x)) (ne_eqb task i ne) in
             let soon : v < s + x = early (λ e. ne (ap (λ (w : ℕ). (job_at g.run w).task) e ∙ target.is_i)) in
             omega (arith, admitted (g.p.cap g.sheet i task a) s (job_at g.run k).arrival x admits since (omega (arith, p.arrived, soon)), in_cap)
@@ -98,7 +102,7 @@ module _ (g : Setting) (i j s a x : ℕ) (target : IsTarget g i j s a) where
   other_demand : (o : ℕ) → o < length g.sheet.tasks →
       cond (o == i) 0 ((task_at g.sheet o).cost * alpha_of (task_at g.sheet o).curve (urgent_window o)) ≤ other_of g.p g.sheet i a x o
   unfolding urgent_window
-  other_demand o b = masked (o == i) (task_at g.sheet o).curve (g.sheet_ok.each o b).curve (task_at g.sheet o).cost a x (g.p.cap g.sheet i o a)
+  other_demand o b = masked (o == i) (task_at g.sheet o).curve (g.laws.valid.each o b).curve (task_at g.sheet o).cost a x (g.p.cap g.sheet i o a)
 
   urgent_demand : windows_demand g urgent_window ≤ (task_at g.sheet i).cost * alpha_of (task_at g.sheet i).curve (a + 1) + others_of g.p g.sheet i a x
   unfolding urgent_window others_of
@@ -117,22 +121,24 @@ module _ (g : Setting) (i j s a x : ℕ) (target : IsTarget g i j s a) where
       g.sbf (u - s) + gap ≤ blocking_of g.p g.m g.sheet i a + (task_at g.sheet i).cost * alpha_of (task_at g.sheet i).curve (a + 1) + others_of g.p g.sheet i a x
   unfolding urgent urgent_window
   supply_used u gap stretch less early lacks =
-      let enough = enough_inside g (urgent g j) s u urgent_up stretch (in_window urgent_window s g.run)
+      let enough = supply_served g (urgent g j) s u urgent_up stretch (in_window urgent_window s g.run)
       (λ v k b c r t. in_its_window u v k stretch less b c r t (λ ne. early v k b c r ne))
-      (blocking_of g.p g.m g.sheet i a) stretch.order block_bound in
+      (blocking_of g.p g.m g.sheet i a) block_bound in
       let window : in_window urgent_window s g.run j ≡ true = window_from urgent_window s g.run j (omega (arith, target.arrives))
       (omega (arith, target.arrives, ap (λ (w : Bool). cond w (a + 1) (cap_window (g.p.cap g.sheet i (job_at g.run j).task a) x)) (eq-eqb (job_at g.run j).task i target.is_i))) in
-      let demand = demand_gap g urgent_window s u j gap stretch.long target.listed window (subst (λ w. service_of g.run j u + gap ≤ (task_at g.sheet w).cost) (sym target.is_i) lacks) in
+      let within = subst (λ w. service_of g.run j u + gap ≤ (task_at g.sheet w).cost) (sym target.is_i) lacks in
+      let demand = demand_gap g urgent_window s u j gap stretch.long target.listed window within in
       omega (arith, enough, demand, urgent_demand)
 
   laws : IsLawfulCut g.m (task_at g.sheet i)
-  laws = g.cut i target.in_range
+  laws = g.laws.cut i target.in_range
 
   fits : g.m.fits (task_at g.sheet i) (job_at g.run j) ≡ true
   fits = subst (λ w. g.m.fits (task_at g.sheet w) (job_at g.run j) ≡ true) target.is_i (fit_of g j target.listed)
 
   -- at the end x the job has its threshold, if it is not done
-  at_end : MeetsEnd g.p g.m g.sbf g.sheet i a x → IsBusy g.run (urgent g j) s (s + x) → service_of g.run j (s + x) < (job_at g.run j).cost → g.m.threshold (task_at g.sheet i) ≤ service_of g.run j (s + x)
+  at_end : MeetsEnd g.p g.m g.sbf g.sheet i a x → IsBusy g.run (urgent g j) s (s + x) → service_of g.run j (s + x) < (job_at g.run j).cost →
+      g.m.threshold (task_at g.sheet i) ≤ service_of g.run j (s + x)
   unfolding need_of own_of
   at_end meets stretch less = elim (cases_lt (service_of g.run j (s + x)) (g.m.threshold (task_at g.sheet i))) [
     | inr reached ↦ reached
@@ -159,7 +165,9 @@ module _ (g : Setting) (i j s a x : ℕ) (target : IsTarget g i j s a) where
       let reached = at_end end (urgent_stretch (s + x) (omega arith) (omega (arith, within.end)) (omega arith) quiet late at_x) at_x in
       let early : (v k : ℕ) → s ≤ v → v < u → tick_at g.run v ≡ Runs k → k ≢ j → v < s + x = λ v k b c r ne. elim (cases_lt v (s + x)) [
         | inl l ↦ l
-        | inr l ↦ absurd (ne (last_part v k (omega arith) (omega (arith, reached, service_le g.run j (s + x) v l (omega arith))) (omega (arith, less, service_le g.run j v u (omega arith) long)) r))
+        | inr l ↦
+            let had : g.m.threshold (task_at g.sheet i) ≤ service_of g.run j v = omega (arith, reached, service_le g.run j (s + x) v l (omega arith)) in
+            absurd (ne (last_part v k (omega arith) had (omega (arith, less, service_le g.run j v u (omega arith) long)) r))
       ] in
       let used = supply_used u 1 (urgent_stretch u (omega arith) long (omega arith) quiet late less) less early (omega (arith, less, laws.cost_bound (job_at g.run j) fits)) in
       omega (arith, used, within.enough, ap g.sbf (window_length s (a + bound)))

@@ -1,3 +1,4 @@
+-- For steps "The offset lies in the window" and "Service at the end" of docs/ANALYSIS.md: what jobs that arrive in their tasks' windows can ask for.
 use Rattle.std.proofs.Common.{◌≡◌, ℕ, zero, suc, ◌+◌, ◌-◌, ◌*◌, ◌<◌, ◌≤◌, Bool, true, cond, List, length, take, count_by, refl, ap, inl, inr, arith, eq-eqb}
 use Rattle.std.proofs.lemmas.Bool.{cases_Bool, and_from}
 use Rattle.std.proofs.lemmas.Bool.Decides.{nat_tests}
@@ -11,8 +12,7 @@ use Rattle.task_sheet.specs.Sheets.{task_at}
 use Rattle.run_model.specs.declared.run.Run.{Run}
 use Rattle.run_model.specs.Runs.{no_job, job_at, service_of}
 use Rattle.schedule_laws.specs.Compliance.{arrives_in, arrivals_of}
-use Rattle.schedule_laws.proofs.PrefixFacts.{within_cost}
-use Rattle.busy_window.proofs.Setting.{Setting, of_sheet, fit_of, served}
+use Rattle.abstract_rta.proofs.Setting.{Setting, of_sheet, fit_of, served}
 
 -- job k arrives within the window of its task: each window begins at s, and that of task o is w o long
 abbrev pub in_window : (ℕ → ℕ) → ℕ → Run → ℕ → Bool
@@ -47,7 +47,8 @@ module _ (cost w : ℕ → ℕ) (s n : ℕ) (run : Run) (tasks : (k : ℕ) → k
               arith,
               ih,
               ap (λ (b : Bool). cond b (cost task) 0) t,
-              sum_gap (part m) (part (suc m)) n task (cost task) (tasks m long) (λ o b. omega (arith, part_more m o long)) (omega (arith, part_more m task long, ap (λ (b : Bool). cost task * cond b 1 0) t)),
+              sum_gap (part m) (part (suc m)) n task (cost task) (tasks m long) (λ o b. omega (arith, part_more m o long))
+                  (omega (arith, part_more m task long, ap (λ (b : Bool). cost task * cond b 1 0) t)),
             )
       ]
 
@@ -77,7 +78,7 @@ unfolding served arrivals_of
 demand_gap g w s u j gap h l i lacks =
     let cost : ℕ → ℕ = λ o. (task_at g.sheet o).cost in
     let within : (k : ℕ) → k < length g.run.jobs → service_of g.run k u ≤ cost (job_at g.run k).task =
-    λ k b. omega (arith, within_cost g.m g.sheet g.run g.ok.valid k u h, (g.cut (job_at g.run k).task (of_sheet g k b)).cost_bound (job_at g.run k) (fit_of g k b)) in
+    λ k b. omega (arith, g.laws.within_cost g.sheet g.run g.ok.valid k u h, (g.laws.cut (job_at g.run k).task (of_sheet g k b)).cost_bound (job_at g.run k) (fit_of g k b)) in
     let gapped : served g (in_window w s g.run) u + gap ≤ sum_below (λ k. cond (in_window w s g.run k) (cost (job_at g.run k).task) 0) (length g.run.jobs) =
     sum_gap (λ k. cond (in_window w s g.run k) (service_of g.run k u) 0) (λ k. cond (in_window w s g.run k) (cost (job_at g.run k).task) 0) (length g.run.jobs) j gap l
     (λ k b. cond_mono (in_window w s g.run k) _ _ (within k b))

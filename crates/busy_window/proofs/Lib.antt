@@ -1,4 +1,4 @@
 pub mod Setting
-pub mod Quiet
-pub mod Stretches
-pub mod Laws
+pub mod Supplied
+pub mod Segments
+pub mod Counts

@@ -1,51 +1,22 @@
-use Rattle.std.proofs.Common.{◌≡◌, ℕ, ◌<◌, Bool, true, cond, length}
-use Rattle.lists.specs.Sums.{sum_below}
+-- What the proofs of step "What runs outside" of docs/ANALYSIS.md share: a compliant run, and the laws of the cuts of its tasks.
+use Rattle.std.proofs.Common.{ℕ, ◌<◌, length}
 use Rattle.task_sheet.specs.SheetParts.{SheetParts}
-use Rattle.task_sheet.specs.Sheets.{IsValidSheet, task_at}
+use Rattle.task_sheet.specs.Sheets.{task_at}
 use Rattle.policy.specs.PolicyMeaning.{PolicyMeaning}
-use Rattle.policy.specs.PolicyLaws.{IsOf, IsLawfulPolicy}
 use Rattle.preemption.specs.CutMeaning.{CutMeaning}
 use Rattle.preemption.specs.CutLaws.{IsLawfulCut}
 use Rattle.run_model.specs.declared.run.Run.{Run}
-use Rattle.run_model.specs.declared.run.Tick.TheVariants.{Runs}
-use Rattle.run_model.specs.Runs.{job_at, tick_at, service_of, IsDone, IsPending}
 use Rattle.schedule_laws.specs.Compliance.{IsCompliant}
 
--- a compliant run of a valid sheet, with what is known of its parts
 pub record Setting : Type 0 where
   pub p : PolicyMeaning
   pub m : CutMeaning
   pub sbf : ℕ → ℕ
   pub sheet : SheetParts
   pub run : Run
-  pub sheet_ok : IsValidSheet sheet
-  pub lawful : IsLawfulPolicy p sheet
   pub cut : (o : ℕ) → o < length sheet.tasks → IsLawfulCut m (task_at sheet o)
   pub ok : IsCompliant p m sbf sheet run
 
 abbrev pub setting_of : (p : PolicyMeaning) (m : CutMeaning) (sbf : ℕ → ℕ) (sheet : SheetParts) →
-    IsValidSheet sheet → IsLawfulPolicy p sheet → ((o : ℕ) → o < length sheet.tasks → IsLawfulCut m (task_at sheet o)) →
-    (run : Run) → IsCompliant p m sbf sheet run → Setting
-setting_of p m sbf sheet sheet_ok lawful cut run ok = record { p = p; m = m; sbf = sbf; sheet = sheet; run = run; sheet_ok = sheet_ok; lawful = lawful; cut = cut; ok = ok }
-
-module _ (g : Setting) where
-  pub ran : (t k : ℕ) → t < length g.run.ticks → tick_at g.run t ≡ Runs k → IsPending g.run k t
-  ran t k h r = (g.ok.valid.ticks t k h r).pending
-
-  pub in_order : (t k n : ℕ) → t < length g.run.ticks → tick_at g.run t ≡ Runs k → n < length g.run.jobs →
-      (job_at g.run n).task ≡ (job_at g.run k).task → (job_at g.run n).arrival < (job_at g.run k).arrival → IsDone g.run n t
-  in_order t k n h r = (g.ok.valid.ticks t k h r).in_order n
-
-  pub of_sheet : (k : ℕ) → k < length g.run.jobs → IsOf g.sheet (job_at g.run k)
-  of_sheet k h = (g.ok.valid.jobs k h).task
-
-  pub fit_of : (k : ℕ) → k < length g.run.jobs → g.m.fits (task_at g.sheet (job_at g.run k).task) (job_at g.run k) ≡ true
-  fit_of k h = (g.ok.valid.jobs k h).fit
-
--- the longest segment of the task of job k
-abbrev pub segment_of : Setting → ℕ → ℕ
-segment_of g k = g.m.longest (task_at g.sheet (job_at g.run k).task)
-
--- what the chosen jobs have got before t
-unfoldable pub served : Setting → (ℕ → Bool) → ℕ → ℕ
-served g chosen t = sum_below (λ k. cond (chosen k) (service_of g.run k t) 0) (length g.run.jobs)
+    ((o : ℕ) → o < length sheet.tasks → IsLawfulCut m (task_at sheet o)) → (run : Run) → IsCompliant p m sbf sheet run → Setting
+setting_of p m sbf sheet cut run ok = record { p = p; m = m; sbf = sbf; sheet = sheet; run = run; cut = cut; ok = ok }

@@ -1,3 +1,4 @@
+-- up-sets of jobs, quiet ticks, busy stretches, and what the three laws say of them
 use Rattle.std.specs.Prelude.{◌≡◌, ℕ, ◌+◌, ◌-◌, ◌<◌, ◌≤◌, ◌≢◌, ◌⊎◌, ◌==◌, ◌||◌, List, [], ◌∷◌, Bool, true, false, not, length}
 use Rattle.task_sheet.specs.SheetParts.{SheetParts}
 use Rattle.task_sheet.specs.Sheets.{IsValidSheet, task_at}
@@ -16,7 +17,8 @@ use Rattle.schedule_laws.specs.Compliance.{can_cut, IsCompliant}
 -- the set is closed upwards in urgency: with a job of the set, each that is at least as urgent is in it
 abbrev pub IsUpSet : PolicyMeaning → SheetParts → Run → (ℕ → Bool) → Type 0
 IsUpSet p sheet run set =
-    (k n : ℕ) → k < length run.jobs → n < length run.jobs → key_le (p.key sheet (job_at run k)) (p.key sheet (job_at run n)) ≡ true → set n ≡ true → set k ≡ true
+    (k n : ℕ) → k < length run.jobs → n < length run.jobs →
+    key_le (p.key sheet (job_at run k)) (p.key sheet (job_at run n)) ≡ true → set n ≡ true → set k ≡ true
 
 -- each job of the set that arrived before tick t is done at t
 abbrev pub IsQuiet : Run → (ℕ → Bool) → ℕ → Type 0
@@ -63,22 +65,31 @@ InBusy p m sbf Holds =
 abbrev pub IsInsideOrUncut : CutMeaning → SheetParts → Run → (ℕ → Bool) → ℕ → ℕ → Type 0
 IsInsideOrUncut m sheet run set t k = (set k ≡ true) ⊎ ((set k ≡ false) × (can_cut m sheet run k t ≡ false))
 
--- a tick that is not off runs a job of the set, or one outside that cannot be cut there
-abbrev pub RunsInside : PolicyMeaning → CutMeaning → (ℕ → ℕ) → Type 0
-RunsInside p m sbf =
-    InBusy p m sbf (λ sheet run set s u. (t : ℕ) → s ≤ t → t < u → tick_at run t ≢ Off → (k : ℕ) × (tick_at run t ≡ Runs k) × IsInsideOrUncut m sheet run set t k)
+-- a tick of [s, u) that is not off runs a job of the set, or one outside that cannot be cut there
+abbrev pub EachRunsInside : CutMeaning → SheetParts → Run → (ℕ → Bool) → ℕ → ℕ → Type 0
+EachRunsInside m sheet run set s u =
+    (t : ℕ) → s ≤ t → t < u → tick_at run t ≢ Off → (k : ℕ) × (tick_at run t ≡ Runs k) × IsInsideOrUncut m sheet run set t k
 
--- job k arrived before the stretch, runs in fewer of its ticks than a segment is long, and is the one job outside the set that runs in it
+abbrev pub RunsInside : PolicyMeaning → CutMeaning → (ℕ → ℕ) → Type 0
+RunsInside p m sbf = InBusy p m sbf (EachRunsInside m)
+
+-- job k arrived before [s, u), runs in fewer of its ticks than a segment is long, and is the one job outside the set that runs in it
 pub record IsOutsider (m : CutMeaning) (sheet : SheetParts) (run : Run) (set : ℕ → Bool) (s u k : ℕ) : Type 0 where
   pub early : (job_at run k).arrival < s
   pub short : ticks_in (runs k) run s (u - s) + 1 ≤ m.longest (task_at sheet (job_at run k).task)
   pub only : (t n : ℕ) → s ≤ t → t < u → tick_at run t ≡ Runs n → set n ≡ false → n ≡ k
 
--- what runs outside the set is one job
-abbrev pub OneOutsider : PolicyMeaning → CutMeaning → (ℕ → ℕ) → Type 0
-OneOutsider p m sbf =
-    InBusy p m sbf (λ sheet run set s u. (t k : ℕ) → s ≤ t → t < u → tick_at run t ≡ Runs k → set k ≡ false → IsOutsider m sheet run set s u k)
+-- a job outside the set that runs in [s, u) is the one such job
+abbrev pub EachIsOutsider : CutMeaning → SheetParts → Run → (ℕ → Bool) → ℕ → ℕ → Type 0
+EachIsOutsider m sheet run set s u =
+    (t k : ℕ) → s ≤ t → t < u → tick_at run t ≡ Runs k → set k ≡ false → IsOutsider m sheet run set s u k
 
--- the ticks that run jobs of the set are as many as the supply promises, less those that run jobs outside
+abbrev pub OneOutsider : PolicyMeaning → CutMeaning → (ℕ → ℕ) → Type 0
+OneOutsider p m sbf = InBusy p m sbf (EachIsOutsider m)
+
+-- the ticks of [s, u) that run jobs of the set are as many as the supply promises, less those that run jobs outside
+abbrev pub HasEnoughInside : (ℕ → ℕ) → SheetParts → Run → (ℕ → Bool) → ℕ → ℕ → Type 0
+HasEnoughInside sbf sheet run set s u = sbf (u - s) ≤ ticks_in (runs_in set) run s (u - s) + ticks_in (runs_out set) run s (u - s)
+
 abbrev pub EnoughInside : PolicyMeaning → CutMeaning → (ℕ → ℕ) → Type 0
-EnoughInside p m sbf = InBusy p m sbf (λ sheet run set s u. sbf (u - s) ≤ ticks_in (runs_in set) run s (u - s) + ticks_in (runs_out set) run s (u - s))
+EnoughInside p m sbf = InBusy p m sbf (HasEnoughInside sbf)

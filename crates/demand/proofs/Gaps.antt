@@ -1,4 +1,5 @@
-use Rattle.std.proofs.Common.{◌≡◌, ℕ, zero, suc, ◌+◌, ◌-◌, ◌*◌, ◌<◌, ◌≤◌, ◌≢◌, ◌==◌, min, Bool, true, false, cond, not, length, refl, sym, ap, inl, inr, arith, add-suc, add-zero, add-one, eq-eqb}
+-- Step "From listed points to every offset" of docs/ANALYSIS.md: no need grows from an offset to a later one that no number tells apart from it.
+use Rattle.std.proofs.Common.{◌≡◌, ℕ, zero, suc, ◌+◌, ◌*◌, ◌<◌, ◌≤◌, ◌≢◌, ◌==◌, min, Bool, true, false, cond, not, length, refl, sym, ap, inl, inr, arith, add-suc, add-zero, add-one, eq-eqb}
 use Rattle.std.proofs.lemmas.Bool.{cases_lt, and_from, and_parts, eqb-false, ne_eqb, not-true}
 use Rattle.std.proofs.Math.Nat.{mul-le-mul_left}
 use Rattle.lists.proofs.SumFacts.{sum_le, max_at_most}
@@ -11,40 +12,36 @@ use Rattle.task_sheet.specs.Sheets.{IsValidSheet, task_at}
 use Rattle.policy.specs.declared.keys.Cap.{Cap}
 use Rattle.policy.specs.declared.keys.Cap.TheVariants.{Nothing, At, All}
 use Rattle.policy.specs.Keys.{not_below_zero}
+use Rattle.policy.specs.Offsets.{cap_count, IsSame}
 use Rattle.policy.specs.PolicyLaws.{GrowsTo, IsLawfulPolicy}
 use Rattle.policy.specs.PolicyMeaning.{PolicyMeaning}
-use Rattle.policy.proofs.KeyFacts.{floor_mono}
 use Rattle.preemption.specs.CutMeaning.{CutMeaning}
 use Rattle.demand.specs.Demand.{capped_count, own_of, others_of, blocking_of, need_of}
-use Rattle.policy.specs.Offsets.{cap_count, IsSame}
-use Rattle.demand.specs.Meeting.{MeetsEnd, MeetsBound, MeetsAt}
 
 -- where the whole count stays, so does its part up to x
-same_part : (curve : Curve) → IsCurve curve → (low mid high x : ℕ) → low ≤ mid → mid ≤ high → alpha_of curve low ≡ alpha_of curve high →
-    alpha_of curve (min x mid) ≤ alpha_of curve (min x low)
-same_part curve ok low mid high x h l e = elim (cases_lt low x) [
+same_part : (curve : Curve) → IsCurve curve → (low high x : ℕ) → alpha_of curve low ≡ alpha_of curve high →
+    alpha_of curve (min x high) ≤ alpha_of curve (min x low)
+same_part curve ok low high x e = elim (cases_lt low x) [
   | inr below ↦
-      let m : min x mid ≡ min x low = omega arith in
-      omega (arith, ap (alpha_of curve) m)
+      let m : min x low ≡ x = omega arith in
+      omega (arith, ap (alpha_of curve) m, alpha_mono curve ok (min x high) x (omega arith))
   | inl above ↦
       let m : min x low ≡ low = omega arith in
-      omega (arith, ap (alpha_of curve) m, alpha_mono curve ok (min x mid) high (omega arith), e)
+      omega (arith, ap (alpha_of curve) m, alpha_mono curve ok (min x high) high (omega arith), e)
 ]
 
--- between two caps that admit as many jobs in all, no cap admits more within x ticks
-pub count_stays : (curve : Curve) → IsCurve curve → (x : ℕ) (from at to : Cap) → GrowsTo from at → GrowsTo at to → cap_count curve from ≡ cap_count curve to →
+-- of two caps that admit as many jobs in all, the greater admits no more within x ticks
+count_stays : (curve : Curve) → IsCurve curve → (x : ℕ) (from at : Cap) → GrowsTo from at → cap_count curve from ≡ cap_count curve at →
     capped_count curve at x ≤ capped_count curve from x
-count_stays curve ok x Nothing Nothing to h l e = omega arith
-count_stays curve ok x All All to h l e = omega arith
-count_stays curve ok x (At c) (At d) (At f) h l e = same_part curve ok (not_below_zero c) (not_below_zero d) (not_below_zero f) x (floor_mono c d h) (floor_mono d f l) e
-count_stays curve ok x (At c) (At d) Nothing h l e = absurd l
-count_stays curve ok x (At c) (At d) All h l e = absurd l
-count_stays curve ok x Nothing (At d) to h l e = absurd h
-count_stays curve ok x Nothing All to h l e = absurd h
-count_stays curve ok x (At c) Nothing to h l e = absurd h
-count_stays curve ok x (At c) All to h l e = absurd h
-count_stays curve ok x All Nothing to h l e = absurd h
-count_stays curve ok x All (At d) to h l e = absurd h
+count_stays curve ok x Nothing Nothing h e = omega arith
+count_stays curve ok x All All h e = omega arith
+count_stays curve ok x (At c) (At d) h e = same_part curve ok (not_below_zero c) (not_below_zero d) x e
+count_stays curve ok x Nothing (At d) h e = absurd h
+count_stays curve ok x Nothing All h e = absurd h
+count_stays curve ok x (At c) Nothing h e = absurd h
+count_stays curve ok x (At c) All h e = absurd h
+count_stays curve ok x All Nothing h e = absurd h
+count_stays curve ok x All (At d) h e = absurd h
 
 masked_le : (b : Bool) (m n : ℕ) → (b ≡ false → m ≤ n) → cond b 0 m ≤ cond b 0 n
 masked_le true m n h = omega arith
@@ -58,50 +55,34 @@ pub sbf_mono : (sbf : ℕ → ℕ) → ((d : ℕ) → sbf d ≤ sbf (d + 1)) →
 sbf_mono sbf rises d zero = rw add-zero (omega arith)
 sbf_mono sbf rises d (suc e) = rw add-suc (omega (arith, sbf_mono sbf rises d e, rw add-one at (rises (d + e))))
 
-module _ (p : PolicyMeaning) (sheet : SheetParts) (i from last : ℕ) (same : IsSame p sheet i from last) where
-  own_same : i < length sheet.tasks → alpha_of (task_at sheet i).curve (from + 1) ≡ alpha_of (task_at sheet i).curve (last + 1)
+module _ (p : PolicyMeaning) (sheet : SheetParts) (i from at : ℕ) (same : IsSame p sheet i from at) where
+  own_same : i < length sheet.tasks → alpha_of (task_at sheet i).curve (from + 1) ≡ alpha_of (task_at sheet i).curve (at + 1)
   own_same in_range = rw (eq-eqb i i refl) at (same i in_range)
 
-  caps_same : (o : ℕ) → o < length sheet.tasks → o ≢ i → cap_count (task_at sheet o).curve (p.cap sheet i o from) ≡ cap_count (task_at sheet o).curve (p.cap sheet i o last)
+  caps_same : (o : ℕ) → o < length sheet.tasks → o ≢ i →
+      cap_count (task_at sheet o).curve (p.cap sheet i o from) ≡ cap_count (task_at sheet o).curve (p.cap sheet i o at)
   caps_same o in_range other = rw (ne_eqb o i other) at (same o in_range)
 
--- the need at an offset from which no number tells a later one apart
+-- the need at an offset that no number tells apart from an earlier one
 module _ (p : PolicyMeaning) (m : CutMeaning) (sheet : SheetParts) (ok : IsValidSheet sheet) (lawful : IsLawfulPolicy p sheet) (i : ℕ) (in_range : i < length sheet.tasks) where
-  pub block_less : (from a : ℕ) → from ≤ a → blocking_of p m sheet i a ≤ blocking_of p m sheet i from
+  block_less : (from a : ℕ) → from ≤ a → blocking_of p m sheet i a ≤ blocking_of p m sheet i from
   unfolding blocking_of
   block_less from a h = max_at_most _ _ (length sheet.tasks) (λ o b. implied_le _ _ _ (λ t.
       let parts = and_parts (not (o == i)) (p.may_block sheet i o a) t in
-      and_from _ _ parts.0 (lawful.block_falls i o from a in_range b (λ e. eqb-false o i (not-true (o == i) parts.0) (sym e)) h parts.1)))
+      let other : i ≢ o = λ e. eqb-false o i (not-true (o == i) parts.0) (sym e) in
+      and_from _ _ parts.0 (lawful.block_falls i o from a in_range b other h parts.1)))
 
-  pub others_less : (from a last x : ℕ) → from ≤ a → a ≤ last → IsSame p sheet i from last → others_of p sheet i a x ≤ others_of p sheet i from x
+  others_less : (from a x : ℕ) → from ≤ a → IsSame p sheet i from a → others_of p sheet i a x ≤ others_of p sheet i from x
   unfolding others_of
-  others_less from a last x h l same = sum_le _ _ (length sheet.tasks) (λ o b. masked_le (o == i) _ _ (λ f.
+  others_less from a x h same = sum_le _ _ (length sheet.tasks) (λ o b. masked_le (o == i) _ _ (λ f.
       let ne : o ≢ i = eqb-false o i f in
-      mul-le-mul_left (task_at sheet o).cost (count_stays (task_at sheet o).curve (ok.each o b).curve x (p.cap sheet i o from) (p.cap sheet i o a) (p.cap sheet i o last)
-      (lawful.cap_grows i o from a in_range b (λ e. ne (sym e)) h) (lawful.cap_grows i o a last in_range b (λ e. ne (sym e)) l) (caps_same p sheet i from last same o b ne))))
+      let curve = (task_at sheet o).curve in
+      let grows = lawful.cap_grows i o from a in_range b (λ e. ne (sym e)) h in
+      let stays = count_stays curve (ok.each o b).curve x (p.cap sheet i o from) (p.cap sheet i o a) grows (caps_same p sheet i from a same o b ne) in
+      mul-le-mul_left (task_at sheet o).cost stays))
 
-  pub need_less : (from a last x : ℕ) → from ≤ a → a ≤ last → IsSame p sheet i from last → need_of p m sheet i a x ≤ need_of p m sheet i from x
+  pub need_less : (from a x : ℕ) → from ≤ a → IsSame p sheet i from a → need_of p m sheet i a x ≤ need_of p m sheet i from x
   unfolding need_of own_of
-  need_less from a last x h l same =
-      let whole = own_same p sheet i from last same in_range in
-      omega (
-        arith,
-        block_less from a h,
-        others_less from a last x h l same,
-        mul-le-mul_left (task_at sheet i).cost (alpha_mono (task_at sheet i).curve (ok.each i in_range).curve (a + 1) (last + 1) (omega arith)),
-        ap (λ (w : ℕ). (task_at sheet i).cost * w) whole,
-      )
-
-  -- so what meets the conditions at the first of them meets them at each
-  pub across : (sbf : ℕ → ℕ) → ((d : ℕ) → sbf d ≤ sbf (d + 1)) → (bound from a last x : ℕ) → from ≤ a → a ≤ last → IsSame p sheet i from last →
-      MeetsEnd p m sbf sheet i from x → MeetsBound p m sbf sheet i from x bound → MeetsAt p m sbf sheet i bound a x
-  across sbf rises bound from a last x h l same end within =
-      let less = need_less from a last x h l same in
-      let e : from + bound + (a - from) ≡ a + bound = omega arith in
-      record {
-        end = record { enough = omega (arith, less, end.enough) };
-        within = record {
-          end = omega (arith, within.end);
-          enough = omega (arith, less, within.enough, sbf_mono sbf rises (from + bound) (a - from), ap sbf e);
-        };
-      }
+  need_less from a x h same =
+      let own = ap (λ (w : ℕ). (task_at sheet i).cost * w) (own_same p sheet i from a same in_range) in
+      omega (arith, block_less from a h, others_less from a x h same, own)

@@ -1,3 +1,4 @@
 pub mod Compliance
 pub mod Bounded
 pub mod Tests
+pub mod Prefixes

@@ -1,4 +1,5 @@
-//! The tests decide which runs comply.
+//! The tests decide which runs comply, and what holds of every prefix of a valid run.
+ghost use Rattle.schedule_laws.specs.Prefixes.{ServedWithinCost, ServedSinceArrival, BegunWhereUncut};
 ghost use Rattle.schedule_laws.specs.Tests.{DecideCrowds, DecideCompliance};
 
 use policy::Policy;
@@ -14,4 +15,19 @@ pub fn crowds_decide()
 /// short, and no tick breaks the rule on idling, on segments or on priorities.
 pub fn tests_decide<P: Policy, M: Preemption, S: Supply>()
     ensures { (supply : S) → DecideCompliance P.meaning M.cuts (S.sbf supply) }
+{}
+
+/// In a valid run a job has had at most its cost of service before each tick.
+pub fn served_within_cost<M: Preemption>()
+    ensures { ServedWithinCost M.cuts }
+{}
+
+/// In a valid run a job that has had service before a tick arrived before that tick.
+pub fn served_since_arrival<M: Preemption>()
+    ensures { ServedSinceArrival M.cuts }
+{}
+
+/// In a valid run a job that cannot be cut at a tick has had service before it.
+pub fn uncut_has_begun<M: Preemption>()
+    ensures { BegunWhereUncut M.cuts }
 {}

@@ -1,4 +1,4 @@
-//! Which runs comply with a sheet, and the tests that decide it.
+//! Which runs comply with a sheet, the tests that decide it, and what holds of every prefix of a run.
 #![tactic(auto)]
 
 mod arrivals;
@@ -8,7 +8,9 @@ mod supplied;
 mod validity;
 
 pub use arrivals::crowded;
-pub use laws::{crowds_decide, tests_decide};
+pub use laws::{
+    crowds_decide, served_since_arrival, served_within_cost, tests_decide, uncut_has_begun,
+};
 pub use rules::{idle_broken, priority_broken, segment_broken};
 pub use supplied::short_at;
 pub use validity::{fits, valid_at};

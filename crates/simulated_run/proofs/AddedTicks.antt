@@ -1,7 +1,7 @@
 -- One more tick.
 use Rattle.std.proofs.Common.{◌≡◌, ◌≢◌, ℕ, suc, ◌+◌, ◌-◌, ◌<◌, ◌≤◌, ◌⊎◌, Bool, true, false, cond, length, Option, Some, None, refl, sym, ◌∙◌, ap, subst, inl, inr, arith}
 use Rattle.std.specs.Prelude.{nat_le}
-use Rattle.std.proofs.lemmas.Bool.{cases_Bool, cases_lt, and_parts, and_from, le-leb, lt-ltb, leb-true, ltb-true}
+use Rattle.std.proofs.lemmas.Bool.{cases_Bool, cases_lt, leb-true}
 use Rattle.lists.proofs.FirstFacts.{all_parts}
 use Rattle.lists.proofs.SearchFacts.{first_cases, best_cases, best_first, no_best}
 use Rattle.task_sheet.specs.Sheets.{task_at}
@@ -14,6 +14,7 @@ use Rattle.run_model.specs.Runs.{job_at, tick_at, runs, is_on, service_of, ticks
 use Rattle.run_model.proofs.PendingFacts.{pending_from, pending_to}
 use Rattle.run_model.proofs.ServiceFacts.{runs_tells, tick_cases}
 use Rattle.schedule_laws.specs.Compliance.{arrivals_of, can_cut, JobFits, MayRun, IsSupplied, IsWithinCurves}
+use Rattle.schedule_laws.proofs.PrefixFacts.{begun_where_uncut}
 use Rattle.simulated_run.specs.SimulatedRun.{World, with_tick, choice, chosen, inside_segment, most_urgent, may_be_off, comes_before}
 use Rattle.simulated_run.proofs.OrderFacts.{comes_itself, comes_chain, later_key, earlier_first}
 use Rattle.simulated_run.proofs.RunFacts.{ticks_more, tick_kept, tick_new, service_kept, service_new, window_kept, window_new}
@@ -43,13 +44,7 @@ module _ (w : World) (laws : IsLawful w) (t : ℕ) (run : Run) (sound : IsSound 
   }
 
   pub inside_served : (k : ℕ) → k < length run.jobs → can_cut w.cuts w.sheet run k t ≡ false → 0 < service_of run k t
-  inside_served k b f = elim (cases_lt 0 (service_of run k t)) [
-    | inl l ↦ l
-    | inr l ↦
-        let z : service_of run k t ≡ 0 = omega arith in
-        let c : can_cut w.cuts w.sheet run k t ≡ true = ap (w.cuts.cuttable (task_at w.sheet (job_at run k).task) (job_at run k)) z ∙ (cut_laws k b).cut_first (job_at run k) (sound.complies.valid.jobs k b).fit in
-        absurd (cc)
-  ]
+  inside_served k b f = begun_where_uncut w.cuts w.sheet run k t (cut_laws k b) (sound.complies.valid.jobs k b).fit f
 
   follows_inside : (k : ℕ) → k < length run.jobs → can_cut w.cuts w.sheet run k t ≡ false → MayFollow w t run (Runs k)
   follows_inside k b f = record {

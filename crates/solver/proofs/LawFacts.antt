@@ -6,6 +6,7 @@ use Rattle.policy.specs.PolicyMeaning.{PolicyMeaning}
 use Rattle.preemption.specs.CutLaws.{IsLawfulCut}
 use Rattle.preemption.specs.CutMeaning.{CutMeaning}
 use Rattle.demand.proofs.DemandFacts.{need_grows, window_need_grows, fits}
+use Rattle.search_space.proofs.PointFacts.{across}
 use Rattle.demand.proofs.Gaps.{sbf_mono, need_less}
 use Rattle.solver.specs.Laws.{Laws}
 
@@ -18,7 +19,7 @@ laws_hold p m sbf sheet valid lawful cut rises = record {
   need_grows = need_grows p m sheet valid;
   window_grows = window_need_grows p m sheet valid;
   need_fits = λ i a l in_range below. fits p m sheet valid lawful cut i a l in_range below;
-  across_gap = λ i from to a x in_range le lt same. need_less p m sheet valid lawful i in_range from a (to - 1) x le (omega arith) same;
+  across_gap = λ i from to a x in_range le lt same. need_less p m sheet valid lawful i in_range from a x le (across p sheet valid lawful i in_range from a to le lt same);
 }
 
 -- supply does not fall

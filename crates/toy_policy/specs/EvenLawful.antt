@@ -1,5 +1,5 @@
 -- the proof that cuts at even services keep the laws of a kind of preemption; nothing here is to be believed
-use Rattle.std.proofs.Common.{◌≡◌, ℕ, suc, ◌+◌, ◌-◌, ◌%◌, ◌<◌, ◌≤◌, ◌==◌, ◌&&◌, ◌||◌, Bool, true, false, cond, refl, ◌∙◌, ap, subst, inl, inr, arith, leb}
+use Rattle.std.proofs.Common.{◌≡◌, ℕ, ◌+◌, ◌-◌, ◌%◌, ◌<◌, ◌≤◌, ◌==◌, ◌||◌, Bool, true, false, cond, refl, ◌∙◌, ap, subst, inl, inr, arith, leb}
 use Rattle.std.proofs.Math.Nat.{add-mod_right}
 use Rattle.std.proofs.lemmas.Bool.{cases_Bool, cases_lt, leb-true, eqb-true, and_parts, or_cases, le-leb}
 use Rattle.std.proofs.lemmas.Bool.Decides.{nat_tests}
@@ -11,6 +11,7 @@ use Rattle.preemption.specs.CutLaws.{IsLawfulCut, HasNextCut}
 use Rattle.preemption.specs.Segments.{or_left, or_right}
 use Rattle.toy_policy.specs.EvenCuts.{even_meaning}
 
+-- within 1..cost
 record IsThreshold (cost n : ℕ) : Type 0 where
   low : 1 ≤ n
   high : n ≤ cost

@@ -11,7 +11,7 @@ use Rattle.task_sheet.specs.declared.tasks.Cut.TheVariants.{Full, Never, Fixed, 
 use Rattle.task_sheet.specs.declared.tasks.Job.{Job}
 use Rattle.task_sheet.specs.declared.tasks.Task.{Task}
 use Rattle.preemption.specs.CutMeaning.{CutMeaning}
-use Rattle.preemption.specs.CutLaws.{IsLawfulCut}
+use Rattle.preemption.specs.CutLaws.{IsTabledCut}
 use Rattle.preemption.specs.Cuts.{is_prefix_sum, cuttable_by}
 use Rattle.preemption.specs.Segments.{or_right, prefix_zero}
 use Rattle.audit.specs.CutSums.{sums_from}
@@ -100,9 +100,9 @@ segments_either : (cut : Cut) → ((segments : List ℕ) × (cut ≡ Fixed segme
 segments_either cut (inl p) = subst HasSegments (sym p.1) tt
 segments_either cut (inr p) = subst HasSegments (sym p.1) tt
 
--- so it tells where a job can be cut, by every kind of preemption that serves its task
-pub searched_cut : (m : CutMeaning) (task : Task) (j : Job) (sums : List ℕ) (s : ℕ) (r : Result ℕ ℕ) (found : Bool) → IsLawfulCut m task → ((segments : List ℕ) × (task.cut ≡ Fixed segments)) ⊎ ((bound : ℕ) × (task.cut ≡ Floating bound)) →
+-- so it tells where a job can be cut, by every kind of the table that serves its task
+pub searched_cut : (m : CutMeaning) (task : Task) (j : Job) (sums : List ℕ) (s : ℕ) (r : Result ℕ ℕ) (found : Bool) → IsTabledCut m task → ((segments : List ℕ) × (task.cut ≡ Fixed segments)) ⊎ ((bound : ℕ) × (task.cut ≡ Floating bound)) →
     sums ≡ sums_from 0 j.segs → IsBinarySearchResult (λ y. nat_cmp y s) sums r → is_ok r ≡ found → (found || leb j.cost s) ≡ m.cuttable task j s
-searched_cut m task j sums s r found law cut are h is =
+searched_cut m task j sums s r found tabled cut are h is =
     let same = found_is j.segs s r (subst (λ (l : List ℕ). IsBinarySearchResult (λ y. nat_cmp y s) l r) are h) in
-    ap (λ (b : Bool). b || leb j.cost s) (sym is ∙ same) ∙ (sym (cut_by task.cut j s (segments_either task.cut cut)) ∙ sym (law.same_cuts j s))
+    ap (λ (b : Bool). b || leb j.cost s) (sym is ∙ same) ∙ (sym (cut_by task.cut j s (segments_either task.cut cut)) ∙ sym (tabled.same_cuts j s))

@@ -7,7 +7,7 @@ ghost use Rattle.schedule_laws.specs.Tests.{AreOf};
 ghost use Rattle.audit.specs.CutSums.{sums_from, AreSums};
 ghost use Rattle.audit.specs.Relations.{AreFitting};
 
-use preemption::Preemption;
+use preemption::Tabled;
 use run_model::Run;
 use std::alloc::{AllocError, Global};
 use task_sheet::{Cut, Job, Sheet, Task};
@@ -28,7 +28,7 @@ fn sums_of(alloc: Global, segments: &[u64]) -> Result<Vec<u64>, AllocError>
 }
 
 /// For each job the sums of its first segments.
-pub fn cut_sums<M: Preemption>(
+pub fn cut_sums<M: Tabled>(
     alloc: Global,
     sheet: &Sheet,
     run: &Run,
@@ -48,7 +48,7 @@ pub fn cut_sums<M: Preemption>(
 /// Whether a job can be cut once it has had `s` ticks of service.
 ///
 /// The sums of its first segments are looked up, and not made again at each tick.
-fn can_cut<M: Preemption>(task: &Task, job: &Job, sums: &[u64], s: u64) -> bool
+fn can_cut<M: Tabled>(task: &Task, job: &Job, sums: &[u64], s: u64) -> bool
     requires valid { IsTask task.now }
     requires serves { M.cuts.serves task.now ≡ true }
     requires sums { sums.now ≡ sums_from 0 job.now.segs }
@@ -61,7 +61,7 @@ fn can_cut<M: Preemption>(task: &Task, job: &Job, sums: &[u64], s: u64) -> bool
 }
 
 /// Whether job `k` can be cut once it has had `s` ticks of service.
-pub fn can_cut_job<M: Preemption>(
+pub fn can_cut_job<M: Tabled>(
     sheet: &Sheet,
     run: &Run,
     sums: &[Vec<u64>],

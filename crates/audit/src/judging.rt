@@ -14,14 +14,14 @@ use crate::ticks::{first_idling, first_invalid, first_overtaken, first_segment, 
 use crate::verdict::{AuditVerdict, Fault};
 use lists::Items;
 use policy::Policy;
-use preemption::Preemption;
+use preemption::Tabled;
 use run_model::Run;
 use std::alloc::{AllocError, Global};
 use supply::Supply;
 use task_sheet::Sheet;
 
 /// The first rule that the run breaks, at its first place.
-fn first_broken<P: Policy, M: Preemption>(
+fn first_broken<P: Policy, M: Tabled>(
     alloc: Global,
     sheet: &Sheet,
     run: &Run,
@@ -62,7 +62,7 @@ fn first_broken<P: Policy, M: Preemption>(
 ///
 /// The run is within the limits of a run's text, the kind of preemption serves every task, and the
 /// supply is the one that the sheet states. The only error is want of memory.
-pub fn audit<P: Policy, M: Preemption, S: Supply>(
+pub fn audit<P: Policy, M: Tabled, S: Supply>(
     alloc: Global,
     sheet: &Sheet,
     supply: &S,

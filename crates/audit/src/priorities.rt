@@ -13,7 +13,7 @@ ghost use Rattle.audit.specs.Relations.{IsSmall, IsPriorityTick};
 use crate::cuts::can_cut_job;
 use crate::progress::Progress;
 use policy::{Key, Policy};
-use preemption::Preemption;
+use preemption::Tabled;
 use run_model::{Run, Tick};
 use std::alloc::{AllocError, Global};
 use task_sheet::Sheet;
@@ -59,7 +59,7 @@ fn is_overtaken<P: Policy>(
 }
 
 /// Whether tick `t` runs, where it can be cut, a job less urgent than a pending one.
-fn is_priority_broken<P: Policy, M: Preemption>(
+fn is_priority_broken<P: Policy, M: Tabled>(
     sheet: &Sheet,
     run: &Run,
     sums: &[Vec<u64>],
@@ -84,7 +84,7 @@ fn is_priority_broken<P: Policy, M: Preemption>(
 }
 
 /// The least tick that runs, where it can be cut, a job less urgent than a pending one.
-pub fn priority_tick<P: Policy, M: Preemption>(
+pub fn priority_tick<P: Policy, M: Tabled>(
     alloc: Global,
     sheet: &Sheet,
     run: &Run,

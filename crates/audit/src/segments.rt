@@ -12,7 +12,7 @@ ghost use Rattle.audit.specs.Relations.{IsSmall, IsServed, AreFitting, IsSegment
 
 use crate::cuts::can_cut_job;
 use crate::services::{no_service, serve};
-use preemption::Preemption;
+use preemption::Tabled;
 use run_model::{Run, Tick};
 use std::alloc::{AllocError, Global};
 use task_sheet::Sheet;
@@ -29,7 +29,7 @@ fn leaves(tick: Tick, inside: Option<u32>) -> bool
 }
 
 /// The job inside a segment after tick `t`, where at most this one was inside before.
-fn inside_after<M: Preemption>(
+fn inside_after<M: Tabled>(
     sheet: &Sheet,
     run: &Run,
     sums: &[Vec<u64>],
@@ -58,7 +58,7 @@ fn inside_after<M: Preemption>(
 }
 
 /// The least supplied tick that does not run a job inside a segment.
-pub fn segment_tick<M: Preemption>(
+pub fn segment_tick<M: Tabled>(
     alloc: Global,
     sheet: &Sheet,
     run: &Run,

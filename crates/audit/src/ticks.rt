@@ -14,7 +14,7 @@ use crate::segments::segment_tick;
 use crate::validity::invalid_tick;
 use crate::verdict::{Fault, Rule};
 use policy::Policy;
-use preemption::Preemption;
+use preemption::Tabled;
 use run_model::{Run, Tick};
 use schedule_laws::{idle_broken, priority_broken, segment_broken};
 use std::alloc::{AllocError, Global};
@@ -82,7 +82,7 @@ pub fn first_idling(alloc: Global, sheet: &Sheet, run: &Run) -> Result<Option<Fa
 }
 
 /// The first supplied tick that does not run a job inside a segment.
-pub fn first_segment<M: Preemption>(
+pub fn first_segment<M: Tabled>(
     alloc: Global,
     sheet: &Sheet,
     run: &Run,
@@ -101,7 +101,7 @@ pub fn first_segment<M: Preemption>(
 }
 
 /// The first tick that runs, where it can be cut, a job less urgent than a pending one.
-pub fn first_overtaken<P: Policy, M: Preemption>(
+pub fn first_overtaken<P: Policy, M: Tabled>(
     alloc: Global,
     sheet: &Sheet,
     run: &Run,

@@ -12,7 +12,7 @@ use Rattle.policy.specs.Policies.{edf_meaning}
 use Rattle.policy.specs.Lawful.{edf_lawful}
 use Rattle.preemption.specs.Cuts.{fits}
 use Rattle.preemption.specs.Kinds.{per_task_meaning}
-use Rattle.preemption.specs.Lawful.{per_task_lawful}
+use Rattle.preemption.specs.Lawful.{per_task_lawful, per_task_tabled}
 use Rattle.run_model.specs.declared.run.Run.{Run}
 use Rattle.run_model.specs.Runs.{no_job, job_at}
 use Rattle.run_text.specs.Text.{segments_of}
@@ -82,6 +82,7 @@ run_early seed n t mode some few =
       sheet = valid;
       policy = edf_lawful (generated_sheet seed n) valid;
       cuts = λ o b. per_task_lawful (task_at (generated_sheet seed n) o) (valid.each o b);
+      tabled = λ o b. per_task_tabled (task_at (generated_sheet seed n) o);
       starts = refl;
       rises = λ d. omega arith;
     } in

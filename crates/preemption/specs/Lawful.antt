@@ -1,3 +1,4 @@
+-- proofs that the five kinds keep their laws; nothing here is to be believed
 use Rattle.std.proofs.Common.{◌≡◌, ℕ, ◌+◌, ◌-◌, ◌<◌, ◌≤◌, ◌==◌, ◌&&◌, ◌||◌, Bool, true, false, List, length, refl, sym, ap, subst, inl, inr, arith, leb, sum}
 use Rattle.std.specs.List.{list_all}
 use Rattle.std.proofs.lemmas.Bool.{cases_Bool, leb-true, eqb-true, and_parts, or_cases, le-leb}
@@ -10,7 +11,7 @@ use Rattle.task_sheet.specs.declared.tasks.Job.{Job}
 use Rattle.task_sheet.specs.Rules.{is_positive}
 use Rattle.task_sheet.specs.Sheets.{CutFits, IsTask}
 use Rattle.preemption.specs.Cuts.{is_prefix_sum, greatest, last_of, each_within, all_within, cuttable_by, longest_by, threshold_by, segments_fit}
-use Rattle.preemption.specs.CutLaws.{IsLawfulCut}
+use Rattle.preemption.specs.CutLaws.{IsLawfulCut, IsTabledCut}
 use Rattle.preemption.specs.Kinds.{is_full, is_never, is_fixed, is_floating, segments_of, bound_of, by_cut, full_meaning, never_meaning, fixed_meaning, floating_meaning, per_task_meaning}
 use Rattle.preemption.specs.Segments.{HasNextSum, or_left, or_right, prefix_zero, next_sum, last_within, prefix_leaves_last, greatest_within, greatest_all, greatest_sum, greatest_some, last_some}
 
@@ -156,11 +157,16 @@ by_cut_lawful own serves task ok e =
       cut_last = λ j s f h. law.cut_last j s (job j f) h;
       cut_next = λ j s f c h. let n = law.cut_next j s (job j f) c h in record { at = n.at; later = n.later; near = n.near; cut = n.there };
       last_part = λ j s f h l. law.last_part j s (job j f) h l;
-      same_cuts = λ j s. ap (λ (c : Cut). cuttable_by c j s) e;
-      same_longest = ap (λ (c : Cut). longest_by c task.cost) e;
-      same_threshold = ap (λ (c : Cut). threshold_by c task.cost) e;
-      same_fits = λ j. ap (λ (c : Cut). is_between 1 task.cost j.cost && segments_fit c j) e;
     }
+
+-- and what the table says of it
+by_cut_tabled : (own : Task → Cut) (serves : Task → Bool) (task : Task) → own task ≡ task.cut → IsTabledCut (by_cut own serves) task
+by_cut_tabled own serves task e = record {
+  same_cuts = λ j s. ap (λ (c : Cut). cuttable_by c j s) e;
+  same_longest = ap (λ (c : Cut). longest_by c task.cost) e;
+  same_threshold = ap (λ (c : Cut). threshold_by c task.cost) e;
+  same_fits = λ j. ap (λ (c : Cut). is_between 1 task.cost j.cost && segments_fit c j) e;
+}
 
 full_own : (cut : Cut) → is_full cut ≡ true → Full ≡ cut
 full_own Full h = refl
@@ -201,3 +207,19 @@ floating_lawful task ok h = by_cut_lawful (λ t. Floating (bound_of t.cut)) (λ 
 
 pub per_task_lawful : (task : Task) → IsTask task → IsLawfulCut per_task_meaning task
 per_task_lawful task ok = by_cut_lawful (λ t. t.cut) (λ t. true) task ok refl
+
+-- each kind is of the table, for the tasks that it serves
+pub full_tabled : (task : Task) → is_full task.cut ≡ true → IsTabledCut full_meaning task
+full_tabled task h = by_cut_tabled (λ t. Full) (λ t. is_full t.cut) task (full_own task.cut h)
+
+pub never_tabled : (task : Task) → is_never task.cut ≡ true → IsTabledCut never_meaning task
+never_tabled task h = by_cut_tabled (λ t. Never) (λ t. is_never t.cut) task (never_own task.cut h)
+
+pub fixed_tabled : (task : Task) → is_fixed task.cut ≡ true → IsTabledCut fixed_meaning task
+fixed_tabled task h = by_cut_tabled (λ t. Fixed (segments_of t.cut)) (λ t. is_fixed t.cut) task (fixed_own task.cut h)
+
+pub floating_tabled : (task : Task) → is_floating task.cut ≡ true → IsTabledCut floating_meaning task
+floating_tabled task h = by_cut_tabled (λ t. Floating (bound_of t.cut)) (λ t. is_floating t.cut) task (floating_own task.cut h)
+
+pub per_task_tabled : (task : Task) → IsTabledCut per_task_meaning task
+per_task_tabled task = by_cut_tabled (λ t. t.cut) (λ t. true) task refl

@@ -1,3 +1,4 @@
+-- proofs on lists of segments, for those of the laws; nothing here is to be believed
 use Rattle.std.proofs.Common.{◌≡◌, ℕ, ◌+◌, ◌-◌, ◌<◌, ◌≤◌, ◌⊎◌, ◌==◌, ◌&&◌, ◌||◌, Bool, true, List, [], ◌∷◌, length, refl, ◌∙◌, ap, inl, inr, arith, leb, sum}
 use Rattle.std.specs.List.{list_all}
 use Rattle.std.proofs.lemmas.Bool.{cases_lt, leb-true, eqb-true, and_from, and_parts, or_cases, le-leb}

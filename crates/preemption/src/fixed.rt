@@ -1,11 +1,12 @@
 //! Preemption between the segments that a task fixes.
 ghost use Rattle.preemption.specs.Kinds.{fixed_meaning};
-ghost use Rattle.preemption.specs.Lawful.{fixed_lawful};
+ghost use Rattle.preemption.specs.Lawful.{fixed_lawful, fixed_tabled};
 
 use crate::preemption::Preemption;
 use crate::segments::{
     costs_within, each_within, greatest, is_prefix_sum, is_sum, last, segments_of,
 };
+use crate::tabled::Tabled;
 use task_sheet::{Job, Task};
 
 /// A job can be cut between its segments, which are no longer than those of its task.
@@ -36,4 +37,8 @@ impl Preemption for FixedCut {
             && each_within(segments, segments_of(task))
             && is_sum(segments, job.cost)
     }
+}
+
+impl Tabled for FixedCut {
+    ghost tabled = { fixed_tabled };
 }

@@ -1,9 +1,10 @@
 //! Preemption between segments that each job chooses.
 ghost use Rattle.preemption.specs.Kinds.{floating_meaning};
-ghost use Rattle.preemption.specs.Lawful.{floating_lawful};
+ghost use Rattle.preemption.specs.Lawful.{floating_lawful, floating_tabled};
 
 use crate::preemption::Preemption;
 use crate::segments::{all_within, bound_of, costs_within, is_prefix_sum, is_sum};
+use crate::tabled::Tabled;
 use task_sheet::{Job, Task};
 
 /// A job can be cut between its segments, which are no longer than its task's bound.
@@ -34,4 +35,8 @@ impl Preemption for FloatingCut {
             && all_within(bound_of(task), segments)
             && is_sum(segments, job.cost)
     }
+}
+
+impl Tabled for FloatingCut {
+    ghost tabled = { floating_tabled };
 }

@@ -1,9 +1,10 @@
 //! Preemption at every tick.
 ghost use Rattle.preemption.specs.Kinds.{full_meaning};
-ghost use Rattle.preemption.specs.Lawful.{full_lawful};
+ghost use Rattle.preemption.specs.Lawful.{full_lawful, full_tabled};
 
 use crate::preemption::Preemption;
 use crate::segments::{costs_within, has_none};
+use crate::tabled::Tabled;
 use task_sheet::{Job, Task};
 
 /// A job can be cut at every tick.
@@ -31,4 +32,8 @@ impl Preemption for FullCut {
     fn fits(task: &Task, job: &Job) -> bool {
         costs_within(task, job) && has_none(job.segs.as_slice())
     }
+}
+
+impl Tabled for FullCut {
+    ghost tabled = { full_tabled };
 }

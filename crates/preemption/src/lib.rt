@@ -8,6 +8,7 @@ mod never;
 mod per_task;
 mod preemption;
 mod segments;
+mod tabled;
 
 pub use fixed::FixedCut;
 pub use floating::FloatingCut;
@@ -15,6 +16,7 @@ pub use full::FullCut;
 pub use never::NeverCut;
 pub use per_task::PerTask;
 pub use preemption::Preemption;
+pub use tabled::Tabled;
 
 #[cfg(test)]
 mod tests;

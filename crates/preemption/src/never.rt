@@ -1,9 +1,10 @@
 //! No preemption.
 ghost use Rattle.preemption.specs.Kinds.{never_meaning};
-ghost use Rattle.preemption.specs.Lawful.{never_lawful};
+ghost use Rattle.preemption.specs.Lawful.{never_lawful, never_tabled};
 
 use crate::preemption::Preemption;
 use crate::segments::{costs_within, has_none};
+use crate::tabled::Tabled;
 use task_sheet::{Job, Task};
 
 /// A job that has begun runs to its end.
@@ -31,4 +32,8 @@ impl Preemption for NeverCut {
     fn fits(task: &Task, job: &Job) -> bool {
         costs_within(task, job) && has_none(job.segs.as_slice())
     }
+}
+
+impl Tabled for NeverCut {
+    ghost tabled = { never_tabled };
 }

@@ -1,12 +1,13 @@
 //! Each task by its own kind.
 ghost use Rattle.preemption.specs.Kinds.{per_task_meaning};
-ghost use Rattle.preemption.specs.Lawful.{per_task_lawful};
+ghost use Rattle.preemption.specs.Lawful.{per_task_lawful, per_task_tabled};
 
 use crate::fixed::FixedCut;
 use crate::floating::FloatingCut;
 use crate::full::FullCut;
 use crate::never::NeverCut;
 use crate::preemption::Preemption;
+use crate::tabled::Tabled;
 use task_sheet::{Cut, Job, Task};
 
 /// A job can be cut as the sheet says of its task.
@@ -54,4 +55,8 @@ impl Preemption for PerTask {
             Cut::Floating(_) => FloatingCut::fits(task, job),
         }
     }
+}
+
+impl Tabled for PerTask {
+    ghost tabled = { λ task _. per_task_tabled task };
 }

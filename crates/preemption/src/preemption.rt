@@ -1,13 +1,13 @@
 //! What a kind of preemption is.
-ghost use Rattle.std.specs.Prelude.{◌≡◌, true};
+ghost use Rattle.std.specs.Prelude.{◌≡◌, ◌≤◌, true};
 ghost use Rattle.task_sheet.specs.declared.tasks.Task.{Task as TaskValue};
-ghost use Rattle.task_sheet.specs.Sheets.{IsTask};
+ghost use Rattle.task_sheet.specs.Sheets.{CutFits, IsTask};
 ghost use Rattle.preemption.specs.CutMeaning.{CutMeaning};
 ghost use Rattle.preemption.specs.CutLaws.{IsLawfulCut};
 
 use task_sheet::{Job, Task};
 
-/// A kind of preemption: at which services a job can be cut.
+/// A kind of preemption: at which services a job can be cut, with the laws that the bounds rest on.
 pub trait Preemption {
     const NAME: &'static str;
 
@@ -19,13 +19,17 @@ pub trait Preemption {
 
     /// The most service between two places where a job can be cut.
     fn longest(task: &Task) -> u64
-        requires valid { IsTask task.now }
+        requires cost_low { 1 ≤ task.now.cost }
+        requires cost_high { task.now.cost ≤ 1000000000 }
+        requires cut { CutFits task.now.cost task.now.cut }
         requires serves { cuts.serves task.now ≡ true }
         ensures { result ≡ cuts.longest task.now };
 
     /// From how much service on a job is not cut any more.
     fn threshold(task: &Task) -> u64
-        requires valid { IsTask task.now }
+        requires cost_low { 1 ≤ task.now.cost }
+        requires cost_high { task.now.cost ≤ 1000000000 }
+        requires cut { CutFits task.now.cost task.now.cut }
         requires serves { cuts.serves task.now ≡ true }
         ensures { result ≡ cuts.threshold task.now };
 

@@ -10,7 +10,7 @@ use Rattle.task_sheet.specs.declared.tasks.Cut.TheVariants.{Full, Never, Fixed, 
 use Rattle.task_sheet.specs.declared.tasks.Task.{Task}
 use Rattle.task_sheet.specs.declared.tasks.Job.{Job}
 use Rattle.preemption.specs.CutMeaning.{CutMeaning}
-use Rattle.preemption.specs.CutLaws.{IsLawfulCut}
+use Rattle.preemption.specs.CutLaws.{IsTabledCut}
 use Rattle.preemption.specs.Cuts.{each_within, all_within, segments_fit, fits}
 use Rattle.preemption.specs.Segments.{sum_more}
 use Rattle.simulated_run.specs.declared.mode.Mode.{Mode}
@@ -139,6 +139,6 @@ module _ (mode : Mode) (task : Task) (ok : IsTask task) (o t state : ℕ) where
   unfolding new_job
   new_fits = and_from _ _ (and_from _ _ (le-leb _ _ (cost_fits mode task.cut task.cost state ok.cost_low ok.cut).low) (le-leb _ _ (cost_fits mode task.cut task.cost state ok.cost_low ok.cut).high)) (segments_by_fit mode task.cut task.cost o t state ok.cut)
 
-  -- and so by every kind of preemption that serves the task
-  pub new_fits_by : (m : CutMeaning) → IsLawfulCut m task → m.fits task (new_job mode task o t state) ≡ true
-  new_fits_by m law = law.same_fits (new_job mode task o t state) ∙ new_fits
+  -- and so by every kind of the table that serves the task
+  pub new_fits_by : (m : CutMeaning) → IsTabledCut m task → m.fits task (new_job mode task o t state) ≡ true
+  new_fits_by m tabled = tabled.same_fits (new_job mode task o t state) ∙ new_fits

@@ -3,7 +3,7 @@ use Rattle.std.proofs.Common.{◌≡◌, ℕ, suc, ◌+◌, ◌-◌, ◌<◌, �
 use Rattle.curve.specs.Curves.{alpha_of}
 use Rattle.task_sheet.specs.Sheets.{task_at, IsValidSheet}
 use Rattle.policy.specs.PolicyLaws.{IsLawfulPolicy}
-use Rattle.preemption.specs.CutLaws.{IsLawfulCut}
+use Rattle.preemption.specs.CutLaws.{IsLawfulCut, IsTabledCut}
 use Rattle.run_model.specs.declared.run.Run.{Run}
 use Rattle.run_model.specs.Runs.{job_at, service_of, IsDone}
 use Rattle.schedule_laws.specs.Compliance.{arrivals_of, can_cut, IsCompliant}
@@ -14,6 +14,7 @@ pub record IsLawful (w : World) : Type 0 where
   pub sheet : IsValidSheet w.sheet
   pub policy : IsLawfulPolicy w.policy w.sheet
   pub cuts : (o : ℕ) → o < length w.sheet.tasks → IsLawfulCut w.cuts (task_at w.sheet o)
+  pub tabled : (o : ℕ) → o < length w.sheet.tasks → IsTabledCut w.cuts (task_at w.sheet o)
   pub starts : w.sbf 0 ≡ 0
   pub rises : (d : ℕ) → w.sbf (d + 1) ≤ w.sbf d + 1
 

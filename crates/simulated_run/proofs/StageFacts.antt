@@ -37,7 +37,7 @@ module _ (w : World) (laws : IsLawful w) (t : ℕ) (run : Run) (sound : IsSound 
         cost_low = law.cost_positive (job_at run k) fit.fit;
         cost_high = law.cost_bound (job_at run k) fit.fit;
         fit = fit.fit;
-        own_fit = sym (law.same_fits (job_at run k)) ∙ fit.fit;
+        own_fit = sym ((laws.tabled (job_at run k).task fit.task).same_fits (job_at run k)) ∙ fit.fit;
       }
 
   -- what runs is in the list

@@ -93,7 +93,7 @@ module _ (w : World) (laws : IsLawful w) where
   unfolding add_job new_job
   amid_job o t n m b amid =
       let j : Job = new_job w.mode (task_at w.sheet o) o t m.state in
-      let fits : w.cuts.fits (task_at w.sheet o) j ≡ true = new_fits_by w.mode (task_at w.sheet o) (laws.sheet.each o b) o t m.state w.cuts (laws.cuts o b) in
+      let fits : w.cuts.fits (task_at w.sheet o) j ≡ true = new_fits_by w.mode (task_at w.sheet o) (laws.sheet.each o b) o t m.state w.cuts (laws.tabled o b) in
       record {
         sound = sound_job w laws t m.run amid.sound j b refl fits (λ s h. omega (arith, amid.left s h));
         left = λ s h. omega (arith, amid.left s h, arrivals_more m.run j o s (suc t), at_most_one (arrives_in o s (suc t) j));

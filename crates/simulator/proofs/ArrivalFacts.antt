@@ -15,7 +15,7 @@ use Rattle.task_sheet.specs.declared.tasks.Task.{Task}
 use Rattle.policy.specs.PolicyMeaning.{PolicyMeaning}
 use Rattle.policy.specs.PolicyLaws.{IsLawfulPolicy}
 use Rattle.preemption.specs.CutMeaning.{CutMeaning}
-use Rattle.preemption.specs.CutLaws.{IsLawfulCut}
+use Rattle.preemption.specs.CutLaws.{IsLawfulCut, IsTabledCut}
 use Rattle.run_model.specs.declared.run.Run.{Run}
 use Rattle.run_text.specs.Text.{segments_of}
 use Rattle.simulated_run.specs.declared.mode.Mode.{Mode}
@@ -37,7 +37,7 @@ use Rattle.simulator.specs.declared.refusal.SimRefusal.TheVariants.{Jobs, Segmen
 use Rattle.simulator.specs.Simulations.{IsRefusal}
 use Rattle.simulator.specs.Loads.{IsLoadRefusal}
 use Rattle.simulator.specs.Ranks.{rank_at, rank_cmp}
-use Rattle.simulator.specs.Kept.{IsKeptBy, IsWithin, IsNew, IsKnown, HasArrivals, HasCuts, world_by}
+use Rattle.simulator.specs.Kept.{IsKeptBy, IsWithin, IsNew, IsKnown, HasArrivals, HasCuts, IsTabled, world_by}
 use Rattle.simulator.proofs.LimitFacts.{segments_more, too_many_jobs, too_many_segments, refusal_on}
 use Rattle.simulator.proofs.WindowFacts.{has_arrivals_more, past_is, promised_is}
 use Rattle.simulator.proofs.CutFacts.{new_floats}
@@ -50,11 +50,11 @@ unfolding new_job
 job_is mode task own o t state cost segs same e f = cc
 
 -- a new job can be taken up
-pub new_is : (mode : Mode) (m : CutMeaning) (sheet : SheetParts) (o t state : ℕ) (jobs : List Job) → o < length sheet.tasks → IsTask (task_at sheet o) → IsLawfulCut m (task_at sheet o) → length jobs < 20000
+pub new_is : (mode : Mode) (m : CutMeaning) (sheet : SheetParts) (o t state : ℕ) (jobs : List Job) → o < length sheet.tasks → IsTask (task_at sheet o) → IsLawfulCut m (task_at sheet o) → IsTabledCut m (task_at sheet o) → length jobs < 20000
     → segments_of jobs + length (new_job mode (task_at sheet o) o t state).segs ≤ 1000000 → IsNew m sheet jobs (new_job mode (task_at sheet o) o t state)
 unfolding new_job
-new_is mode m sheet o t state jobs b ok law few short =
-    let fits : m.fits (task_at sheet o) (new_job mode (task_at sheet o) o t state) ≡ true = new_fits_by mode (task_at sheet o) ok o t state m law in
+new_is mode m sheet o t state jobs b ok law tabled few short =
+    let fits : m.fits (task_at sheet o) (new_job mode (task_at sheet o) o t state) ≡ true = new_fits_by mode (task_at sheet o) ok o t state m tabled in
     record {
       known = record { task = b; arrived = omega arith; cost = omega (arith, new_cost_high mode (task_at sheet o) ok o t state, ok.cost_high); fits = fits; floats = new_floats mode (task_at sheet o) o t state };
       positive = new_cost_low mode (task_at sheet o) ok o t state;
@@ -63,10 +63,10 @@ new_is mode m sheet o t state jobs b ok law few short =
       few_segments = short;
     }
 
-pub made_new : (mode : Mode) (m : CutMeaning) (sheet : SheetParts) (o t state : ℕ) (jobs : List Job) (job : Job) → job ≡ new_job mode (task_at sheet o) o t state → o < length sheet.tasks → IsTask (task_at sheet o) → IsLawfulCut m (task_at sheet o) → length jobs < 20000
+pub made_new : (mode : Mode) (m : CutMeaning) (sheet : SheetParts) (o t state : ℕ) (jobs : List Job) (job : Job) → job ≡ new_job mode (task_at sheet o) o t state → o < length sheet.tasks → IsTask (task_at sheet o) → IsLawfulCut m (task_at sheet o) → IsTabledCut m (task_at sheet o) → length jobs < 20000
     → segments_of jobs + length job.segs ≤ 1000000 → IsNew m sheet jobs job
-made_new mode m sheet o t state jobs job e b ok law few short =
-    subst (IsNew m sheet jobs) (sym e) (new_is mode m sheet o t state jobs b ok law few (subst (λ (v : Job). segments_of jobs + length v.segs ≤ 1000000) e short))
+made_new mode m sheet o t state jobs job e b ok law tabled few short =
+    subst (IsNew m sheet jobs) (sym e) (new_is mode m sheet o t state jobs b ok law tabled few (subst (λ (v : Job). segments_of jobs + length v.segs ≤ 1000000) e short))
 
 module _ (p : PolicyMeaning) (m : CutMeaning) (sheet : SheetParts) (t : ℕ) (run : Run) (left : List ℕ) (queue : BTreeMap Rank ℕ) (x : Option ℕ) (total : ℕ) (lists : List (Vec ℕ)) (sums : List ℕ) (kept : IsKeptBy p m sheet t run left queue x total lists sums) where
   -- the machine after a new job
@@ -147,8 +147,8 @@ pub room_is : (w : World) (o t : ℕ) (m : Moment) (list : List ℕ) (task : Tas
 room_is w o t m list task g is_task are is_g =
     is_g ∙ (ap (λ (u : Task). allowance_in u.curve list t) is_task ∙ allowance_same (task_at w.sheet o).curve o m.run list t (λ s h. are.same s t))
 
-pub lawful_world : (p : PolicyMeaning) (m : CutMeaning) (sheet : SheetParts) (mode : Mode) → IsValidSheet sheet → IsLawfulPolicy p sheet → HasCuts (world_by p m sheet mode) → IsLawful (world_by p m sheet mode)
-lawful_world p m sheet mode valid policy cuts = record { sheet = valid; policy = policy; cuts = cuts; starts = stated_starts sheet valid; rises = λ d. (stated_grows sheet d valid).1 }
+pub lawful_world : (p : PolicyMeaning) (m : CutMeaning) (sheet : SheetParts) (mode : Mode) → IsValidSheet sheet → IsLawfulPolicy p sheet → HasCuts (world_by p m sheet mode) → IsTabled (world_by p m sheet mode) → IsLawful (world_by p m sheet mode)
+lawful_world p m sheet mode valid policy cuts tabled = record { sheet = valid; policy = policy; cuts = cuts; tabled = tabled; starts = stated_starts sheet valid; rises = λ d. (stated_grows sheet d valid).1 }
 
 pub allowance_small : (curve : Curve) (arrivals : List ℕ) (t : ℕ) → IsCurve curve → allowance_in curve arrivals t ≤ 2000000
 unfolding allowance_in

@@ -9,7 +9,7 @@ use Rattle.task_sheet.specs.declared.tasks.Cut.TheVariants.{Full, Never, Fixed, 
 use Rattle.task_sheet.specs.declared.tasks.Job.{Job}
 use Rattle.task_sheet.specs.declared.tasks.Task.{Task}
 use Rattle.preemption.specs.CutMeaning.{CutMeaning}
-use Rattle.preemption.specs.CutLaws.{IsLawfulCut}
+use Rattle.preemption.specs.CutLaws.{IsTabledCut}
 use Rattle.preemption.specs.Cuts.{is_prefix_sum, cuttable_by}
 use Rattle.preemption.specs.Segments.{or_right}
 use Rattle.simulated_run.specs.declared.mode.Mode.{Mode}
@@ -52,13 +52,13 @@ floating_cut bound cost s l = elim (cases_lt s cost) [
   | inr c ↦ or_right (s % bound == 0) (leb cost s) (le-leb cost s c) ∙ sym (or_right (is_prefix_sum (floating_segments bound cost) s) (leb cost s) (le-leb cost s c))
 ]
 
--- so they are for every kind of preemption that serves the task
-pub floating_cuttable : (m : CutMeaning) (task : Task) (j : Job) (bound s : ℕ) → IsTask task → IsLawfulCut m task → task.cut ≡ Floating bound → FloatsBy task.cut j → ((s % bound == 0) || leb j.cost s) ≡ m.cuttable task j s
-floating_cuttable m task j bound s ok law is floats =
+-- so they are for every kind of the table that serves the task
+pub floating_cuttable : (m : CutMeaning) (task : Task) (j : Job) (bound s : ℕ) → IsTask task → IsTabledCut m task → task.cut ≡ Floating bound → FloatsBy task.cut j → ((s % bound == 0) || leb j.cost s) ≡ m.cuttable task j s
+floating_cuttable m task j bound s ok tabled is floats =
     let low = (subst (CutFits task.cost) is ok.cut).0 in
     let segs : j.segs ≡ floating_segments bound j.cost = subst (λ (c : Cut). FloatsBy c j) is floats in
     floating_cut bound j.cost s low
-    ∙ (ap (λ (l : List ℕ). is_prefix_sum l s || leb j.cost s) (sym segs) ∙ (ap (λ (c : Cut). cuttable_by c j s) (sym is) ∙ sym (law.same_cuts j s)))
+    ∙ (ap (λ (l : List ℕ). is_prefix_sum l s || leb j.cost s) (sym segs) ∙ (ap (λ (c : Cut). cuttable_by c j s) (sym is) ∙ sym (tabled.same_cuts j s)))
 
 floats_by : (mode : Mode) (cut : Cut) (o t cost state : ℕ) → FloatsBy cut (record { task = o; arrival = t; cost = cost_by mode cut cost state; segs = segments_by mode cut (cost_by mode cut cost state) state })
 floats_by mode Full o t cost state = tt

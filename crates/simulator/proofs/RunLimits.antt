@@ -10,7 +10,7 @@ use Rattle.task_sheet.specs.declared.tasks.Cut.TheVariants.{Full, Never, Fixed, 
 use Rattle.task_sheet.specs.declared.tasks.Job.{Job}
 use Rattle.policy.specs.PolicyMeaning.{PolicyMeaning}
 use Rattle.preemption.specs.CutMeaning.{CutMeaning}
-use Rattle.preemption.specs.CutLaws.{IsLawfulCut}
+use Rattle.preemption.specs.CutLaws.{IsTabledCut}
 use Rattle.preemption.specs.Cuts.{each_within, all_within, has_none, segments_fit}
 use Rattle.preemption.specs.Segments.{sum_more}
 use Rattle.run_model.specs.declared.run.Run.{Run}
@@ -48,19 +48,19 @@ tick_of n Off h = tt
 tick_of n Idle h = tt
 tick_of n (Runs k) h = h k refl
 
-known_job : (m : CutMeaning) (sheet : SheetParts) (t : ℕ) (j : Job) → IsValidSheet sheet → ((o : ℕ) → o < length sheet.tasks → IsLawfulCut m (task_at sheet o)) → t ≤ 100000 → IsKnown m sheet t j → IsJob j
-known_job m sheet t j valid cuts h known = record {
+known_job : (m : CutMeaning) (sheet : SheetParts) (t : ℕ) (j : Job) → IsValidSheet sheet → ((o : ℕ) → o < length sheet.tasks → IsTabledCut m (task_at sheet o)) → t ≤ 100000 → IsKnown m sheet t j → IsJob j
+known_job m sheet t j valid tabled h known = record {
   task = omega (arith, known.task, valid.few);
   arrival = omega (arith, known.arrived);
   cost = known.cost;
-  segs = cut_segments (task_at sheet j.task).cut j (and_parts (is_between 1 (task_at sheet j.task).cost j.cost) _ (sym ((cuts j.task known.task).same_fits j) ∙ known.fits)).1 known.cost;
+  segs = cut_segments (task_at sheet j.task).cut j (and_parts (is_between 1 (task_at sheet j.task).cost j.cost) _ (sym ((tabled j.task known.task).same_fits j) ∙ known.fits)).1 known.cost;
 }
 
-pub kept_within : (p : PolicyMeaning) (m : CutMeaning) (sheet : SheetParts) (t : ℕ) (run : Run) (left : List ℕ) (queue : BTreeMap Rank ℕ) (x : Option ℕ) → IsKeptAt p m sheet t run left queue x → IsValidSheet sheet → ((o : ℕ) → o < length sheet.tasks → IsLawfulCut m (task_at sheet o)) → t ≤ 100000 → IsWithinLimits run
-kept_within p m sheet t run left queue x kept valid cuts h = record {
+pub kept_within : (p : PolicyMeaning) (m : CutMeaning) (sheet : SheetParts) (t : ℕ) (run : Run) (left : List ℕ) (queue : BTreeMap Rank ℕ) (x : Option ℕ) → IsKeptAt p m sheet t run left queue x → IsValidSheet sheet → ((o : ℕ) → o < length sheet.tasks → IsTabledCut m (task_at sheet o)) → t ≤ 100000 → IsWithinLimits run
+kept_within p m sheet t run left queue x kept valid tabled h = record {
   few_jobs = kept.within.few_jobs;
   few_ticks = omega (arith, kept.now);
   few_segments = kept.within.few_segments;
-  jobs = All-from_get_or IsJob run.jobs no_job (λ k b. known_job m sheet t (job_at run k) valid cuts h (kept.known k b));
+  jobs = All-from_get_or IsJob run.jobs no_job (λ k b. known_job m sheet t (job_at run k) valid tabled h (kept.known k b));
   ticks = All-from_get_or (IsTickOf (length run.jobs)) run.ticks Off (λ u b. tick_of (length run.jobs) (tick_at run u) (λ k e. kept.listed u k (omega (arith, kept.now)) e));
 }

@@ -9,7 +9,7 @@ use Rattle.task_sheet.specs.declared.tasks.Cut.TheVariants.{Full, Never, Fixed, 
 use Rattle.task_sheet.specs.declared.tasks.Job.{Job}
 use Rattle.policy.specs.PolicyMeaning.{PolicyMeaning}
 use Rattle.preemption.specs.CutMeaning.{CutMeaning}
-use Rattle.preemption.specs.CutLaws.{IsLawfulCut}
+use Rattle.preemption.specs.CutLaws.{IsLawfulCut, IsTabledCut}
 use Rattle.supply.specs.Promises.{sbf_of}
 use Rattle.run_model.specs.declared.run.Run.{Run}
 use Rattle.run_model.specs.declared.run.Tick.{Tick}
@@ -143,3 +143,7 @@ pub record KeepsRest (before after : Machine) : Type 0 where
 -- the cuts of a world are lawful
 abbrev pub HasCuts : World → Type 0
 HasCuts w = (o : ℕ) → o < length w.sheet.tasks → IsLawfulCut w.cuts (task_at w.sheet o)
+
+-- and those of the table
+abbrev pub IsTabled : World → Type 0
+IsTabled w = (o : ℕ) → o < length w.sheet.tasks → IsTabledCut w.cuts (task_at w.sheet o)

@@ -12,7 +12,7 @@ use crate::refusal::SimRefusal;
 use crate::words::draw_count;
 use lists::Items;
 use policy::Policy;
-use preemption::Preemption;
+use preemption::{Preemption, Tabled};
 use simulated_run::Mode;
 use std::alloc::{AllocError, Global};
 use task_sheet::{Job, Sheet};
@@ -49,7 +49,7 @@ fn keep_job<P: Policy, M: Preemption>(
 }
 
 /// One more job of task `o` at `t`.
-fn add_job<P: Policy, M: Preemption>(
+fn add_job<P: Policy, M: Tabled>(
     alloc: Global,
     sheet: &Sheet,
     mode: Mode,
@@ -82,7 +82,7 @@ fn add_job<P: Policy, M: Preemption>(
 }
 
 /// So many more jobs of task `o` at `t`.
-fn add_jobs<P: Policy, M: Preemption>(
+fn add_jobs<P: Policy, M: Tabled>(
     alloc: Global,
     sheet: &Sheet,
     mode: Mode,
@@ -106,7 +106,7 @@ fn add_jobs<P: Policy, M: Preemption>(
 }
 
 /// The jobs of task `o` that arrive at `t`.
-fn arrive_of<P: Policy, M: Preemption>(
+fn arrive_of<P: Policy, M: Tabled>(
     alloc: Global,
     sheet: &Sheet,
     mode: Mode,
@@ -130,7 +130,7 @@ fn arrive_of<P: Policy, M: Preemption>(
 }
 
 /// The jobs of all tasks that arrive at `t`.
-pub fn arrive<P: Policy, M: Preemption>(
+pub fn arrive<P: Policy, M: Tabled>(
     alloc: Global,
     sheet: &Sheet,
     mode: Mode,

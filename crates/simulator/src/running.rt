@@ -18,7 +18,7 @@ use crate::refusal::SimRefusal;
 use crate::ticks::add_tick;
 use lists::Items;
 use policy::Policy;
-use preemption::Preemption;
+use preemption::{Preemption, Tabled};
 use rand_core::SeedableRng;
 use rand_xoshiro::SplitMix64;
 use run_model::Run;
@@ -75,7 +75,7 @@ fn start<P: Policy, M: Preemption>(
 }
 
 /// Tick `t`, with the jobs that arrive at it.
-fn run_tick<P: Policy, M: Preemption>(
+fn run_tick<P: Policy, M: Tabled>(
     alloc: Global,
     sheet: &Sheet,
     mode: Mode,
@@ -101,7 +101,7 @@ fn run_tick<P: Policy, M: Preemption>(
 /// tick as the curves still admit. It is refused by `Jobs` where it has more than
 /// 20,000 jobs, and by `Segments` where their segments are more than 1,000,000, as soon as a job
 /// passes a limit; a job that passes both limits passes `Jobs`.
-pub fn simulate<P: Policy, M: Preemption, S: Supply>(
+pub fn simulate<P: Policy, M: Tabled, S: Supply>(
     alloc: Global,
     sheet: &Sheet,
     supply: &S,

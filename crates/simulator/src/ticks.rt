@@ -12,7 +12,7 @@ ghost use Rattle.simulator.specs.Kept.{IsKept, IsKeptAt, IsFirstEntry, MayBe, Fl
 use crate::machine::{Machine, Rank, rank_of};
 use crate::words::draw_off;
 use policy::Policy;
-use preemption::Preemption;
+use preemption::Tabled;
 use run_model::Tick;
 use simulated_run::Mode;
 use std::alloc::AllocError;
@@ -67,7 +67,7 @@ fn leave(queue: &mut BTreeMap<Rank, u32>, rank: Rank, rest: u64)
 /// Whether a job can be cut once it has had `s` ticks of service.
 ///
 /// Segments that float are looked at together: they are cut at the multiples of their bound.
-fn can_cut<M: Preemption>(task: &Task, job: &Job, s: u64) -> bool
+fn can_cut<M: Tabled>(task: &Task, job: &Job, s: u64) -> bool
     requires valid { IsTask task.now }
     requires serves { M.cuts.serves task.now ≡ true }
     requires floats { FloatsBy task.now.cut job.now }
@@ -87,7 +87,7 @@ fn segment_of(cut: bool, k: u32) -> Option<u32>
 }
 
 /// Runs job `k` for a tick.
-fn run_job<P: Policy, M: Preemption>(sheet: &Sheet, machine: &mut Machine, k: u32)
+fn run_job<P: Policy, M: Tabled>(sheet: &Sheet, machine: &mut Machine, k: u32)
     requires listed { k < length machine.old.jobs.items }
     requires waits { 0 < left_at machine.old.left.items k }
     requires chosen { CanRun machine.old.inside k }
@@ -108,7 +108,7 @@ fn run_job<P: Policy, M: Preemption>(sheet: &Sheet, machine: &mut Machine, k: u3
 }
 
 /// What a tick does to its job.
-fn advance<P: Policy, M: Preemption>(sheet: &Sheet, machine: &mut Machine, tick: Tick)
+fn advance<P: Policy, M: Tabled>(sheet: &Sheet, machine: &mut Machine, tick: Tick)
     requires tick { MayBe machine.old tick }
     requires time { length machine.old.ticks.items ≤ 100000 }
     requires served { Serves M.cuts sheet.now }
@@ -132,7 +132,7 @@ fn count_on(tick: Tick) -> u64
 }
 
 /// Tick `t`, once its jobs have arrived.
-pub fn add_tick<P: Policy, M: Preemption>(
+pub fn add_tick<P: Policy, M: Tabled>(
     sheet: &Sheet,
     mode: Mode,
     machine: &mut Machine,

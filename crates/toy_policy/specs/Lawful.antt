@@ -1,3 +1,4 @@
+-- the proof that the order of the numbers keeps the laws of a policy; nothing here is to be believed
 use Rattle.std.proofs.Common.{◌≡◌, Bool, true, false, cond, sym, ap, subst, inl, arith, ltb}
 use Rattle.std.proofs.lemmas.Int.{ints}
 use Rattle.std.proofs.lemmas.Bool.Decides.{nat_tests}

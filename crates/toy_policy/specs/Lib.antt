@@ -1,2 +1,4 @@
 pub mod Numbered
 pub mod Lawful
+pub mod EvenCuts
+pub mod EvenLawful

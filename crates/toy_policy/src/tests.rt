@@ -1,9 +1,9 @@
-//! The verdict by the policy, on a sheet of two tasks.
+//! The verdict by a policy of one's own, on a sheet of two tasks.
 ghost use Rattle.std.specs.Prelude.{◌≡◌, true};
 ghost use Rattle.preemption.specs.CutLaws.{Serves};
 ghost use Rattle.preemption.specs.Kinds.{full_meaning};
 
-use super::*;
+use crate::ByNumber;
 use cert_check::{Verdict, check_cert};
 use curve::{Prefix, Step};
 use lists::{Items, Text};
@@ -13,6 +13,8 @@ use std::alloc::Global;
 use std::test::Fail;
 use supply::Unit;
 use task_sheet::{Cut, PolicyKind, Sheet, SupplySpec, Task};
+
+mod even_cut;
 
 const CERT: &[u8] = b"poet-cert 1\ntasks 2\ntask 0 1 1 1\np 0 1\ntask 1 3 3 1\np 0 3\nend\n";
 

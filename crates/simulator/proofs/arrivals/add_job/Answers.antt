@@ -32,7 +32,7 @@ keep_job-requires-clause-new g c =
     let law : IsLawfulCut g.M.Preemption.cuts (task_at sheet c.args.o) = g.met.M.Preemption.lawful (task_at sheet c.args.o) is_task (c.requires.served c.args.o c.requires.task) in
     made_new c.args.mode g.M.Preemption.cuts sheet c.args.o c.args.t c.args.machine.now.words c.args.machine.now.jobs.items _
     (job_is c.args.mode c.task-task.result.now (task_at sheet c.args.o) c.args.o c.args.t c.args.machine.now.words c.in_ok-load.load.cost c.new.result c.task-task.ensures.task load.cost (c.new.ensures ∙ load.segs))
-    c.requires.task is_task law (omega arith) (omega (arith, ap length c.new.ensures, load.few, c.requires.kept.segments, c.requires.kept.jobs.within.few_segments))
+    c.requires.task is_task law (g.met.M.Tabled.tabled (task_at sheet c.args.o) (c.requires.served c.args.o c.requires.task)) (omega arith) (omega (arith, ap length c.new.ensures, load.few, c.requires.kept.segments, c.requires.kept.jobs.within.few_segments))
 
 pub returns-clause-moment : goal.returns-clause-moment
 returns-clause-moment g c =

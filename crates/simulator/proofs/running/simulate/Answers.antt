@@ -45,5 +45,5 @@ returns g c =
       exact = simulated (world_of w.policy w.cuts sbf w.sheet w.mode) c.args.n run is (subst (λ (r : Run). refused_by r.jobs ≡ None) (sym here) kept.within.none);
       complies = subst (IsCompliant w.policy w.cuts sbf w.sheet) (sym is) (c.simulation_complies.ensures c.args.supply.now c.known.ensures w.sheet valid c.requires.served w.mode c.args.n);
       full = λ dense. subst (IsDense sheet n) (sym is) (subst (λ (mode : Mode). IsDense sheet n (simulated_run (world_of w.policy w.cuts sbf sheet mode) n)) (sym dense) (c.dense_is_full.ensures c.args.supply.now c.known.ensures sheet valid n));
-      within = subst IsWithinLimits (sym here) (kept_within w.policy w.cuts w.sheet c.loop-t.t (run_of m) m.left.items m.queue m.inside kept valid (λ o b. g.met.M.Preemption.lawful (task_at w.sheet o) (valid.each o b) (c.requires.served o b)) (omega arith));
+      within = subst IsWithinLimits (sym here) (kept_within w.policy w.cuts w.sheet c.loop-t.t (run_of m) m.left.items m.queue m.inside kept valid (λ o b. g.met.M.Tabled.tabled (task_at w.sheet o) (c.requires.served o b)) (omega arith));
     }

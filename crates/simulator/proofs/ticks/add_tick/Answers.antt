@@ -18,7 +18,7 @@ pub off_allowed-may-requires : goal.off_allowed-may-requires
 off_allowed-may-requires g c =
     let w : World = world_by g.P.Policy.meaning g.M.Preemption.cuts c.args.sheet.now c.args.mode in
     let valid = c.len-count.ensures.valid in
-    let laws = lawful_world w.policy w.cuts w.sheet w.mode valid (g.met.P.Policy.lawful w.sheet valid) (λ o b. g.met.M.Preemption.lawful (task_at w.sheet o) (valid.each o b) (c.requires.served o b)) in
+    let laws = lawful_world w.policy w.cuts w.sheet w.mode valid (g.met.P.Policy.lawful w.sheet valid) (λ o b. g.met.M.Preemption.lawful (task_at w.sheet o) (valid.each o b) (c.requires.served o b)) (λ o b. g.met.M.Tabled.tabled (task_at w.sheet o) (c.requires.served o b)) in
     counts_promised w laws c.args.t (run_of c.args.machine.now) c.args.machine.now.counts.items c.deref.result.now (ap (λ (v : Moment). v.run) c.requires.stage) c.requires.kept.counts c.deref.ensures.value
 
 pub advance-requires-clause-tick : goal.advance-requires-clause-tick

@@ -5,4 +5,4 @@ use Rattle.preemption.proofs.fixed.FixedCutPreemption.threshold.Goals as goal
 
 pub overflow_sub-result : goal.overflow_sub-result
 overflow_sub-result c =
-    omega (arith, last_fits c.args.task.now.cut c.args.task.now.cost c.requires.valid.cut, c.last.ensures, ap (last_of 0) c.segments_of.ensures)
+    omega (arith, last_fits c.args.task.now.cut c.args.task.now.cost c.requires.cut, c.last.ensures, ap (last_of 0) c.segments_of.ensures)

@@ -143,7 +143,13 @@ reached horizon times v h some =
       late = omega (arith, later_time times 0 (w % length times) f.rise within, mul-le-mul_left (w / length times) f.positive);
     }
 
--- no product or sum of a window's supply is above the window
-pub product_le : (horizon : ℕ) (times : List ℕ) (d : ℕ) → IsPromise (Promised horizon times) → (d / horizon) * count_of times horizon + count_of times (d % horizon) ≤ d
+-- all times come in each whole horizon
+pub promised_counts : (horizon : ℕ) (times : List ℕ) (d : ℕ) → IsPromise (Promised horizon times) → (d / horizon) * length times + count_of times (d % horizon) ≡ promised horizon times d
 unfolding promised
-product_le horizon times d h = promised_le horizon times (facts_of (record { horizon = horizon; times = times }) h) d
+promised_counts horizon times d h =
+    let f = facts_of (record { horizon = horizon; times = times }) h in
+    omega (arith, ap (λ (w : ℕ). d / horizon * w) (count_all times 0 horizon f.rise f.last))
+
+-- no product or sum of a window's supply is above the window
+pub product_le : (horizon : ℕ) (times : List ℕ) (d : ℕ) → IsPromise (Promised horizon times) → (d / horizon) * length times + count_of times (d % horizon) ≤ d
+product_le horizon times d h = omega (arith, promised_counts horizon times d h, promised_le horizon times (facts_of (record { horizon = horizon; times = times }) h) d)

@@ -15,14 +15,13 @@ fn count_up_to(times: &[u64], r: u64) -> u64
 }
 
 /// The ticks that are supplied in every window of `d` ticks.
-#[tactic(auto, unfolding(crate::specs::Promises::promised))]
 pub fn promised_in(horizon: u64, times: &[u64], d: u64) -> u64
     requires { IsPromise (PromisedBy horizon times.now) }
     ensures { result ≡ promised horizon times.now d }
 {
     let whole = d / horizon;
     let rest = d % horizon;
-    whole * count_up_to(times, horizon) + count_up_to(times, rest)
+    whole * times.len() as u64 + count_up_to(times, rest)
 }
 
 /// The least window up to `limit` with `v` supplied ticks.

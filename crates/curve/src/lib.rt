@@ -3,9 +3,10 @@
 
 mod checking;
 mod prefix;
+mod searching;
 
 pub use checking::CurveRefusal;
-pub use prefix::{Prefix, Step};
+pub use prefix::{Prefix, Stair, Step};
 
 #[cfg(test)]
 mod tests;

@@ -1,11 +1,13 @@
 //! A prefix of an arrival curve.
-ghost use Rattle.std.specs.Prelude.{◌≡◌, ◌+◌, ◌*◌, ◌≤◌, ◌<◌, ℕ, IfOk};
-ghost use Rattle.curve.specs.Curves.{last_value as last_value_of, value_of, alpha_of, IsRise};
+ghost use Rattle.std.specs.Prelude.{◌≡◌, ◌+◌, ◌*◌, ◌%◌, ◌≤◌, ℕ, IfOk};
+ghost use Rattle.curve.specs.Curves.{alpha_of, periodic as periodic_of, IsRise};
+ghost use Rattle.curve.specs.Stairs.{IsSplit, IsStair};
 ghost use Rattle.curve.specs.Validity.{IsCurve, check_of};
 ghost use Rattle.lists.specs.Searches.{IsLeastTo};
-ghost use Rattle.curve.specs.Rises.{next_time_of};
 
 use crate::checking::{CurveRefusal, are_in_range, do_rise, ends_by, starts_at_one};
+use crate::searching::{landing, last_value, next_time, steps_near, steps_to, top_value};
+use std::alloc::{AllocError, Global};
 use std::marker::Model;
 
 /// No later rise is looked for, in ticks.
@@ -18,6 +20,20 @@ pub struct Step {
     pub time: u64,
     /// A number of jobs.
     pub value: u64,
+}
+
+/// A stretch of lengths of windows in which equally many jobs may arrive, after the staircase
+/// curves of the real-time calculus.
+#[derive(Clone, Copy, Debug, PartialEq, Eq)]
+pub struct Stair {
+    /// The curve's value on the stretch: a number of jobs.
+    pub value: u128,
+    /// The first length of the stretch, in ticks.
+    pub from: u64,
+    /// The length that ends the stretch, at which the curve is higher, in ticks.
+    pub until: u64,
+    /// How many steps have come since the last whole horizon: a hint for the next search.
+    pub come: usize,
 }
 
 /// A prefix of an arrival curve: a horizon in ticks, and steps up to it.
@@ -66,6 +82,21 @@ impl Prefix {
         Ok(Prefix { horizon, steps })
     }
 
+    /// The curve of one job in each `period` ticks: the sporadic tasks of Mok, whose jobs arrive at
+    /// least a period apart.
+    pub fn periodic(alloc: Global, period: u64) -> Result<Prefix, AllocError>
+        requires low { 1 ≤ period }
+        requires high { period ≤ 1000000000 }
+        ensures curve { IfOk result (λ prefix. prefix ≡ periodic_of period) }
+        ensures valid { IfOk result IsCurve }
+    {
+        let steps = vec![in alloc; Step { time: 1, value: 1 }]?;
+        Ok(Prefix {
+            horizon: period,
+            steps,
+        })
+    }
+
     /// In ticks.
     pub fn horizon(&self) -> u64
         ensures horizon { result ≡ self.now.horizon }
@@ -87,7 +118,7 @@ impl Prefix {
         ensures alpha { result ≡ alpha_of self.now d }
         ensures bound { result ≤ (d + 1) * 1000000 }
     {
-        let whole = (d / self.horizon) as u128 * last_value(&self.steps, self.horizon) as u128;
+        let whole = (d / self.horizon) as u128 * top_value(&self.steps, self.horizon) as u128;
         whole + last_value(&self.steps, d % self.horizon) as u128
     }
 
@@ -102,30 +133,47 @@ impl Prefix {
         let next = d - begun + next_time(&self.steps, begun, self.horizon);
         if next <= LAST_RISE { Some(next) } else { None }
     }
-}
 
-/// The time of the first step after `begun`, or the tick after the horizon.
-fn next_time(steps: &[Step], begun: u64, horizon: u64) -> u64
-    requires { horizon ≤ 1000000000 }
-    ensures { result ≡ next_time_of horizon steps.now begun }
-{
-    for step in steps {
-        if begun < step.time {
-            return step.time;
+    /// The stair on which the curve stands at `d` ticks, by a search among the steps.
+    pub fn stair(&self, d: u64) -> Stair
+        requires { d ≤ 4000000000 }
+        ensures { IsStair self.now result d }
+    {
+        self.stair_of(d, steps_to(&self.steps, d % self.horizon))
+    }
+
+    /// The same, from a stair of the curve: it stays there, goes one step on, or searches.
+    pub fn stair_to(&self, stair: Stair, d: u64) -> Stair
+        requires length { d ≤ 4000000000 }
+        requires before { (e : ℕ) × IsStair self.now stair e }
+        ensures { IsStair self.now result d }
+    {
+        if stair.from <= d && d < stair.until {
+            return stair;
+        }
+        let next = if stair.come < self.steps.len() {
+            stair.come + 1
+        } else {
+            1
+        };
+        self.stair_of(d, steps_near(&self.steps, d % self.horizon, next))
+    }
+
+    /// The stair at `d`, where so many steps have come since the last whole horizon.
+    fn stair_of(&self, d: u64, come: usize) -> Stair
+        requires length { d ≤ 4000000000 }
+        requires come { IsSplit self.now.steps (d % self.now.horizon) come }
+        ensures { IsStair self.now result d }
+    {
+        let begun = d % self.horizon;
+        let base = d - begun;
+        let landing = landing(&self.steps, begun, self.horizon, come);
+        let whole = (d / self.horizon) as u128 * top_value(&self.steps, self.horizon) as u128;
+        Stair {
+            value: whole + landing.value,
+            from: base + landing.from,
+            until: base + landing.until,
+            come,
         }
     }
-    horizon + 1
-}
-
-/// The value of the last step whose time is at most `t`, else 0.
-fn last_value(steps: &[Step], t: u64) -> u64
-    ensures { result ≡ last_value_of 0 steps.now t }
-{
-    let mut last = 0;
-    for step in steps {
-        if step.time <= t {
-            last = step.value;
-        }
-    }
-    last
 }

@@ -2,6 +2,8 @@ use Rattle.std.proofs.Common.{◌≡◌, ℕ, zero, suc, ◌+◌, ◌-◌, ◌*�
 use Rattle.std.proofs.lemmas.Bool.{cases_lt}
 use Rattle.std.proofs.lemmas.Nat.{div-mul-add, div-add-mod'}
 use Rattle.std.proofs.Math.Nat.{mul-le-mul_left}
+use Rattle.std.specs.List.Sorted.{IsNonDecreasingBy}
+use Rattle.std.proofs.lemmas.List.Sorted.{IsNonDecreasingBy-from_default}
 use Rattle.lists.specs.Searches.{IsLeast}
 use Rattle.task_sheet.specs.Rules.{rise_above, last_number}
 use Rattle.task_sheet.specs.Sheets.{IsPromise}
@@ -29,6 +31,25 @@ later_time (t ∷ times) low zero rise h = (rise_parts low t times rise).0
 later_time (t ∷ times) low (suc r) rise h =
     let parts = rise_parts low t times rise in
     omega (arith, parts.0, later_time times t r parts.1 (omega arith))
+
+pub times_rise : (times : List ℕ) (low i j : ℕ) → rise_above low times ≡ true → i ≤ j → j < length times → get_or times i 0 ≤ get_or times j 0
+times_rise [] low i j rise h l = absurd (omega arith)
+times_rise (t ∷ times) low zero zero rise h l = omega arith
+times_rise (t ∷ times) low (suc i) zero rise h l = absurd (omega arith)
+times_rise (t ∷ times) low zero (suc j) rise h l = omega (arith, later_time times t j (rise_parts low t times rise).1 (omega arith))
+times_rise (t ∷ times) low (suc i) (suc j) rise h l = times_rise times t i j (rise_parts low t times rise).1 (omega arith) (omega arith)
+
+-- so the times can be searched
+pub times_sorted : (times : List ℕ) → rise_above 0 times ≡ true → IsNonDecreasingBy (λ t. t) times
+times_sorted times rise = IsNonDecreasingBy-from_default (λ t. t) times 0 (λ i j h l. times_rise times 0 i j rise h l)
+
+-- where the first n times are at most r, and no other, n are
+pub count_split : (times : List ℕ) (r n : ℕ) → n ≤ length times → ((k : ℕ) → k < n → get_or times k 0 ≤ r) → ((k : ℕ) → n ≤ k → k < length times → r < get_or times k 0) → count_of times r ≡ n
+count_split [] r n within early late = omega (arith, within)
+count_split (t ∷ times) r zero within early late =
+    omega (arith, test_fails t r (late 0 (omega arith) (omega arith)), count_split times r 0 (omega arith) (λ k h. absurd (omega (arith, h))) (λ k h l. late (suc k) (omega arith) (omega (arith, l))))
+count_split (t ∷ times) r (suc n) within early late =
+    omega (arith, test_holds t r (early 0 (omega arith)), count_split times r n (omega (arith, within)) (λ k h. early (suc k) (omega (arith, h))) (λ k h l. late (suc k) (omega (arith, h)) (omega (arith, l))))
 
 -- the time with number r is the one at which the count becomes r + 1
 pub count_there : (times : List ℕ) (low r : ℕ) → rise_above low times ≡ true → r < length times → count_of times (get_or times r 0) ≡ r + 1
@@ -122,7 +143,13 @@ reached horizon times v h some =
       late = omega (arith, later_time times 0 (w % length times) f.rise within, mul-le-mul_left (w / length times) f.positive);
     }
 
--- no product or sum of a window's supply is above the window
-pub product_le : (horizon : ℕ) (times : List ℕ) (d : ℕ) → IsPromise (Promised horizon times) → (d / horizon) * count_of times horizon + count_of times (d % horizon) ≤ d
+-- all times come in each whole horizon
+pub promised_counts : (horizon : ℕ) (times : List ℕ) (d : ℕ) → IsPromise (Promised horizon times) → (d / horizon) * length times + count_of times (d % horizon) ≡ promised horizon times d
 unfolding promised
-product_le horizon times d h = promised_le horizon times (facts_of (record { horizon = horizon; times = times }) h) d
+promised_counts horizon times d h =
+    let f = facts_of (record { horizon = horizon; times = times }) h in
+    omega (arith, ap (λ (w : ℕ). d / horizon * w) (count_all times 0 horizon f.rise f.last))
+
+-- no product or sum of a window's supply is above the window
+pub product_le : (horizon : ℕ) (times : List ℕ) (d : ℕ) → IsPromise (Promised horizon times) → (d / horizon) * length times + count_of times (d % horizon) ≤ d
+product_le horizon times d h = omega (arith, promised_counts horizon times d h, promised_le horizon times (facts_of (record { horizon = horizon; times = times }) h) d)

@@ -1,32 +1,27 @@
 //! The supplied ticks of windows, by the times of a promise.
-ghost use Rattle.std.specs.Prelude.{◌≡◌, ◌≤◌};
+ghost use Rattle.std.specs.Prelude.{◌≡◌, ◌≤◌, true};
 ghost use Rattle.lists.specs.Searches.{IsLeastTo};
+ghost use Rattle.task_sheet.specs.Rules.{rise_above};
 ghost use Rattle.task_sheet.specs.Sheets.{IsPromise};
 ghost use Rattle.task_sheet.specs.declared.tasks.SupplySpec.TheVariants.{Promised as PromisedBy};
 ghost use Rattle.supply.specs.Promises.{count_of, promised};
 
-/// How many of the times are at most `r`.
+/// How many of the times, which rise, are at most `r`.
 fn count_up_to(times: &[u64], r: u64) -> u64
+    requires { rise_above 0 times.now ≡ true }
     ensures { result ≡ count_of times.now r }
 {
-    let mut count = 0;
-    for time in times {
-        if *time <= r {
-            count += 1;
-        }
-    }
-    count
+    times.partition_point(|time| *time <= r) as u64
 }
 
 /// The ticks that are supplied in every window of `d` ticks.
-#[tactic(auto, unfolding(crate::specs::Promises::promised))]
 pub fn promised_in(horizon: u64, times: &[u64], d: u64) -> u64
     requires { IsPromise (PromisedBy horizon times.now) }
     ensures { result ≡ promised horizon times.now d }
 {
     let whole = d / horizon;
     let rest = d % horizon;
-    whole * count_up_to(times, horizon) + count_up_to(times, rest)
+    whole * times.len() as u64 + count_up_to(times, rest)
 }
 
 /// The least window up to `limit` with `v` supplied ticks.

@@ -46,7 +46,11 @@ fn service_tick_by_tick(rt: HostRuntime) -> Result<(), Fail> {
         (1, 6, 2, true, false),
     ] {
         assert!(rt; (k as usize) < run.jobs.len() && t as usize <= run.ticks.len());
-        let found = (service(&run, k, t), is_done(&run, k, t), is_pending(&run, k, t));
+        let found = (
+            service(&run, k, t),
+            is_done(&run, k, t),
+            is_pending(&run, k, t),
+        );
         assert_eq!(rt; found, (served, done, pending), "job {k} at {t}");
     }
     Ok(())

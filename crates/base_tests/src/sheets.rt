@@ -33,13 +33,27 @@ const PREEMPTION: Option<SheetRefusal> = Some(SheetRefusal::Range {
 const SUM: Option<SheetRefusal> = Some(SheetRefusal::Sum { task: 0 });
 
 /// A name, the cost, the deadline, the priority, the segments, and what is refused.
-type Row = (&'static str, u64, u64, u64, Pieces<'static>, Option<SheetRefusal>);
+type Row = (
+    &'static str,
+    u64,
+    u64,
+    u64,
+    Pieces<'static>,
+    Option<SheetRefusal>,
+);
 
 const TASKS: [Row; 15] = [
     ("a", 5, 5, 1, Pieces::Full, None),
     ("", 5, 5, 1, Pieces::Full, NAME),
     ("a b", 5, 5, 1, Pieces::Full, NAME),
-    ("abcdefghijklmnopqrstuvwxyz0123456", 5, 5, 1, Pieces::Full, NAME),
+    (
+        "abcdefghijklmnopqrstuvwxyz0123456",
+        5,
+        5,
+        1,
+        Pieces::Full,
+        NAME,
+    ),
     ("a", 0, 5, 1, Pieces::Full, COST),
     ("a", 1_000_000_000, 5, 1, Pieces::Full, None),
     ("a", 1_000_000_001, 5, 1, Pieces::Full, COST),

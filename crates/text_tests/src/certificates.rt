@@ -7,17 +7,23 @@ use std::test::Fail;
 /// A window, a bound, and the points.
 type Row = (u64, u64, &'static [(u64, u64)]);
 
-/// A certificate of one task with one point.
-const ONE_TASK: &[u8] = b"poet-cert 1\ntasks 1\ntask 0 2 2 1\np 0 2\nend\n";
-
-/// A certificate of three tasks, with numbers at the ends of their ranges.
-const THREE_TASKS: &[u8] = b"poet-cert 1\ntasks 3\ntask 0 619 619 1\np 0 619\n\
-    task 1 819 0 2\np 0 620\np 7 1000000000\ntask 2 1000000000 20 3\np 1 0\np 0 9\np 10 10\nend\n";
-
-const THREE_ENTRIES: [Row; 3] = [
-    (619, 619, &[(0, 619)]),
-    (819, 0, &[(0, 620), (7, 1_000_000_000)]),
-    (1_000_000_000, 20, &[(1, 0), (0, 9), (10, 10)]),
+/// A certificate of one task with one point, and one of three tasks, with numbers at the ends of
+/// their ranges.
+const WRITTEN: [(&[u8], &[Row]); 2] = [
+    (
+        b"poet-cert 1\ntasks 1\ntask 0 2 2 1\np 0 2\nend\n",
+        &[(2, 2, &[(0, 2)])],
+    ),
+    (
+        b"poet-cert 1\ntasks 3\ntask 0 619 619 1\np 0 619\n\
+        task 1 819 0 2\np 0 620\np 7 1000000000\n\
+        task 2 1000000000 20 3\np 1 0\np 0 9\np 10 10\nend\n",
+        &[
+            (619, 619, &[(0, 619)]),
+            (819, 0, &[(0, 620), (7, 1_000_000_000)]),
+            (1_000_000_000, 20, &[(1, 0), (0, 9), (10, 10)]),
+        ],
+    ),
 ];
 
 /// Bytes that are no certificate's text, and the line of the first byte that is wrong or missing.
@@ -33,18 +39,27 @@ const REFUSED: [(&[u8], u64); 15] = [
     // An empty line behind `end`.
     (b"poet-cert 1\ntasks 1\ntask 0 2 2 1\np 0 2\nend\n\n", 6),
     // CR LF.
-    (b"poet-cert 1\r\ntasks 1\r\ntask 0 2 2 1\r\np 0 2\r\nend\r\n", 1),
+    (
+        b"poet-cert 1\r\ntasks 1\r\ntask 0 2 2 1\r\np 0 2\r\nend\r\n",
+        1,
+    ),
     (b"", 1),
     (b"poet-cert 1\ntasks 0\nend\n", 2),
     (b"poet-cert 1\ntasks 257\n", 2),
     (b"poet-cert 1\ntasks 1\ntask 1 2 2 1\np 0 2\nend\n", 3),
-    (b"poet-cert 1\ntasks 1\ntask 0 1000000001 2 1\np 0 2\nend\n", 3),
+    (
+        b"poet-cert 1\ntasks 1\ntask 0 1000000001 2 1\np 0 2\nend\n",
+        3,
+    ),
     (b"poet-cert 1\ntasks 1\ntask 0 2 2 0\nend\n", 3),
     (b"poet-cert 1\ntasks 1\ntask 0 2 2 1000001\np 0 2\nend\n", 3),
     // A point is missing.
     (b"poet-cert 1\ntasks 1\ntask 0 2 2 2\np 0 2\nend\n", 5),
     // A point too many.
-    (b"poet-cert 1\ntasks 1\ntask 0 2 2 1\np 0 2\np 1 2\nend\n", 5),
+    (
+        b"poet-cert 1\ntasks 1\ntask 0 2 2 1\np 0 2\np 1 2\nend\n",
+        5,
+    ),
 ];
 
 fn make_cert(alloc: Global, rows: &[Row]) -> Result<Cert, AllocError> {
@@ -64,8 +79,7 @@ fn make_cert(alloc: Global, rows: &[Row]) -> Result<Cert, AllocError> {
 #[test]
 fn texts_are_read_and_written(rt: HostRuntime) -> Result<(), Fail> {
     let alloc = rt.alloc();
-    let one: &[Row] = &[(2, 2, &[(0, 2)])];
-    for (text, rows) in [(ONE_TASK, one), (THREE_TASKS, &THREE_ENTRIES)] {
+    for (text, rows) in WRITTEN {
         let cert = read_cert(alloc, text)?;
         assert_eq!(rt; cert, make_cert(alloc, rows)?);
         assert_eq!(rt; write_cert(alloc, &cert)?.as_slice(), text);

@@ -5,12 +5,7 @@ use sheet_text::read_sheet;
 use std::test::Fail;
 
 /// A sheet, a certificate, its report as a table, and its report as JSON.
-type Case = (
-    &'static [u8],
-    &'static [u8],
-    &'static [u8],
-    &'static [u8],
-);
+type Case = (&'static [u8], &'static [u8], &'static [u8], &'static [u8]);
 
 const TWO_TASKS: Case = (
     b"policy = 'fp'\n\

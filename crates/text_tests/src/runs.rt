@@ -17,7 +17,13 @@ const WRITTEN: [Written; 5] = [
     (
         b"poet-run 1\njobs 2 ticks 5\nj 1 0 2\nj 0 1 1\nrun 0 2\nrun 1 1\nidle 2\nend\n",
         &[(1, 0, 2, &[]), (0, 1, 1, &[])],
-        &[Tick::Runs(0), Tick::Runs(0), Tick::Runs(1), Tick::Idle, Tick::Idle],
+        &[
+            Tick::Runs(0),
+            Tick::Runs(0),
+            Tick::Runs(1),
+            Tick::Idle,
+            Tick::Idle,
+        ],
     ),
     (
         b"poet-run 1\njobs 1 ticks 1\nj 0 0 5 2 3\noff 1\nend\n",
@@ -27,7 +33,13 @@ const WRITTEN: [Written; 5] = [
     (
         b"poet-run 1\njobs 5 ticks 12\nj 0 0 1\nj 1 0 2\nj 0 4 1\nj 1 6 2\nj 0 8 1\n\
         run 0 1\nrun 1 2\nidle 1\nrun 2 1\nidle 1\nrun 3 2\nrun 4 1\nidle 3\nend\n",
-        &[(0, 0, 1, &[]), (1, 0, 2, &[]), (0, 4, 1, &[]), (1, 6, 2, &[]), (0, 8, 1, &[])],
+        &[
+            (0, 0, 1, &[]),
+            (1, 0, 2, &[]),
+            (0, 4, 1, &[]),
+            (1, 6, 2, &[]),
+            (0, 8, 1, &[]),
+        ],
         &[
             Tick::Runs(0),
             Tick::Runs(1),
@@ -47,7 +59,10 @@ const WRITTEN: [Written; 5] = [
     (
         b"poet-run 1\njobs 2 ticks 4\nj 1000000000 0 5 2 0 1000000000\n\
         j 0 1000000000 1000000000\noff 2\nrun 1 1\nrun 0 1\nend\n",
-        &[(1_000_000_000, 0, 5, &[2, 0, 1_000_000_000]), (0, 1_000_000_000, 1_000_000_000, &[])],
+        &[
+            (1_000_000_000, 0, 5, &[2, 0, 1_000_000_000]),
+            (0, 1_000_000_000, 1_000_000_000, &[]),
+        ],
         &[Tick::Off, Tick::Off, Tick::Runs(1), Tick::Runs(0)],
     ),
 ];
@@ -56,7 +71,10 @@ const WRITTEN: [Written; 5] = [
 const REFUSED: [(&[u8], u64); 18] = [
     // Two neighbours of the same tick.
     (b"poet-run 1\njobs 0 ticks 2\nidle 1\nidle 1\nend\n", 4),
-    (b"poet-run 1\njobs 1 ticks 2\nj 0 0 1\nrun 0 1\nrun 0 1\nend\n", 5),
+    (
+        b"poet-run 1\njobs 1 ticks 2\nj 0 0 1\nrun 0 1\nrun 0 1\nend\n",
+        5,
+    ),
     // More ticks than announced.
     (b"poet-run 1\njobs 0 ticks 2\nidle 3\n", 3),
     // Fewer.

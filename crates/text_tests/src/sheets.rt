@@ -6,27 +6,53 @@ use task_sheet::{Field, Place, SheetRefusal};
 
 /// Texts with the first rule that each breaks.
 const REFUSED: [(&[u8], SheetRefusal); 12] = [
-    (b"", SheetRefusal::Missing { place: Place::Top, field: Field::Policy }),
-    (b"policy = \"fp\"", SheetRefusal::Missing { place: Place::Top, field: Field::Task }),
+    (
+        b"",
+        SheetRefusal::Missing {
+            place: Place::Top,
+            field: Field::Policy,
+        },
+    ),
+    (
+        b"policy = \"fp\"",
+        SheetRefusal::Missing {
+            place: Place::Top,
+            field: Field::Task,
+        },
+    ),
     (
         b"policy = \"fp\"\ntask = []\n",
-        SheetRefusal::Range { place: Place::Top, field: Field::Task },
+        SheetRefusal::Range {
+            place: Place::Top,
+            field: Field::Task,
+        },
     ),
     (
         b"policy = \"edf\"\n[[task]]\nname = \"a\"\ncost = 2.0\n",
-        SheetRefusal::Kind { place: Place::Task(0), field: Field::Cost },
+        SheetRefusal::Kind {
+            place: Place::Task(0),
+            field: Field::Cost,
+        },
     ),
     (
         b"policy = \"edf\"\n[[task]]\nname = \"a\"\ncolour = 1\n",
-        SheetRefusal::Unknown { place: Place::Task(0) },
+        SheetRefusal::Unknown {
+            place: Place::Task(0),
+        },
     ),
     (
         b"policy = \"edf\"\n[[task]]\nname = \"a\"\ncost = 1000000001\n",
-        SheetRefusal::Range { place: Place::Task(0), field: Field::Cost },
+        SheetRefusal::Range {
+            place: Place::Task(0),
+            field: Field::Cost,
+        },
     ),
     (
         b"policy = \"edf\"\n[[task]]\nname = \"a\"\ncost = 9223372036854775807\n",
-        SheetRefusal::Range { place: Place::Task(0), field: Field::Cost },
+        SheetRefusal::Range {
+            place: Place::Task(0),
+            field: Field::Cost,
+        },
     ),
     (
         b"policy = \"edf\"\n[[task]]\nname = \"a\"\ncost = 9223372036854775808\n",
@@ -35,7 +61,10 @@ const REFUSED: [(&[u8], SheetRefusal); 12] = [
     (
         b"policy = \"edf\"\n[[task]]\nname = \"a\"\ncost = 2\ndeadline = 9\n\
         curve = { horizon = 5, steps = [[0, 1]] }\n",
-        SheetRefusal::Range { place: Place::Task(0), field: Field::CurveSteps },
+        SheetRefusal::Range {
+            place: Place::Task(0),
+            field: Field::CurveSteps,
+        },
     ),
     (
         b"policy = \"edf\"\n[[task]]\nname = \"a\"\ncost = 4\ndeadline = 9\nperiod = 9\n\
@@ -108,10 +137,16 @@ fn too_many_tasks_and_brackets(rt: HostRuntime) -> Result<(), Fail> {
     let alloc = rt.alloc();
     let place = Place::Top;
     let tasks = pieces(alloc, b"policy = \"fp\"\n", b"[[task]]\n", b"", 257)?;
-    let many = Some(SheetRefusal::Range { place, field: Field::Task });
+    let many = Some(SheetRefusal::Range {
+        place,
+        field: Field::Task,
+    });
     assert_eq!(rt; read_sheet(alloc, &tasks).err(), many);
     let nested = pieces(alloc, b"policy = ", b"[", b"]", 80)?;
-    let list = Some(SheetRefusal::Kind { place, field: Field::Policy });
+    let list = Some(SheetRefusal::Kind {
+        place,
+        field: Field::Policy,
+    });
     assert_eq!(rt; read_sheet(alloc, &nested).err(), list);
     let deep = pieces(alloc, b"policy = ", b"[", b"]", 81)?;
     assert_eq!(rt; read_sheet(alloc, &deep).err(), Some(SheetRefusal::Text));

@@ -7,6 +7,3 @@ mod searching;
 
 pub use checking::CurveRefusal;
 pub use prefix::{Prefix, Stair, Step};
-
-#[cfg(test)]
-mod tests;

@@ -17,6 +17,3 @@ pub use never::NeverCut;
 pub use per_task::PerTask;
 pub use preemption::Preemption;
 pub use tabled::Tabled;
-
-#[cfg(test)]
-mod tests;

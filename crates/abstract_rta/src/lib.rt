@@ -27,18 +27,3 @@ pub fn from_points<P: Policy, M: Preemption, S: Supply>()
 pub fn points_bound<P: Policy, M: Preemption, S: Supply>()
     ensures { (supply : S) → S.is_supply supply → PointsBound P.meaning M.cuts (S.sbf supply) }
 {}
-
-#[cfg(test)]
-mod tests {
-    use super::{bound, from_points, points_bound};
-    use policy::Edf;
-    use preemption::PerTask;
-    use supply::Unit;
-
-    #[test]
-    fn laws_at_concrete_kinds() {
-        bound::<Edf, PerTask, Unit>();
-        from_points::<Edf, PerTask, Unit>();
-        points_bound::<Edf, PerTask, Unit>();
-    }
-}

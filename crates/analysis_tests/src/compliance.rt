@@ -95,6 +95,25 @@ const ROWS: [(&str, u32, u64, Found); 10] = [
     (CROWD, 0, 0, NOTHING),
 ];
 
+const FOUR_JOBS: &str = "poet-run 1\njobs 4 ticks 0\nj 0 0 1\nj 2 0 1\nj 1 0 3\nj 1 0 2\nend\n";
+
+const THREE_JOBS: &str = "poet-run 1\njobs 3 ticks 0\nj 0 0 1\nj 0 1 3\nj 1 0 2\nend\n";
+
+const TICKS: [Tick; 8] = [
+    Tick::Runs(1),
+    Tick::Runs(1),
+    Tick::Runs(2),
+    Tick::Runs(0),
+    Tick::Runs(0),
+    Tick::Runs(3),
+    Tick::Idle,
+    Tick::Off,
+];
+
+const VALID: [bool; 8] = [false, false, true, true, false, false, true, true];
+
+const OFTEN_OFF: &str = "poet-run 1\njobs 0 ticks 8\noff 2\nidle 2\noff 3\nidle 1\nend\n";
+
 /// Whether every job fits and arrives by 10^9.
 fn all_fit(sheet: &Sheet, run: &Run) -> bool
     requires few { length run.now.jobs < 2 ^ 32 }
@@ -113,7 +132,12 @@ fn all_fit(sheet: &Sheet, run: &Run) -> bool
 fn all_valid(run: &Run) -> bool
     requires few { length run.now.jobs < 2 ^ 32 }
 {
-    (0..run.ticks.len() as u64).all(|t| valid_at(run, t))
+    for t in 0..run.ticks.len() as u64 {
+        if !valid_at(run, t) {
+            return false;
+        }
+    }
+    true
 }
 
 /// What the tests say of job `k` and tick `t`, where every job fits and every tick is valid.
@@ -138,70 +162,53 @@ fn run_of(alloc: Global, text: &str) -> Result<Run, Fail> {
     Ok(read_run(alloc, text.as_bytes())?)
 }
 
+/// The same, of texts.
+fn found_in(alloc: Global, sheet: &str, run: &str, k: u32, t: u64) -> Result<Option<Found>, Fail> {
+    let sheet = sheet_of(alloc, sheet)?;
+    let run = read_run(alloc, run.as_bytes())?;
+    Ok(found_at(&sheet, &run, k, t))
+}
+
 #[test]
-fn dense_run(rt: HostRuntime) -> Result<(), Fail> {
-    let sheet = sheet_of(rt.alloc(), TASKS)?;
-    let run = run_of(rt.alloc(), DENSE)?;
+fn runs_and_what_they_break(rt: HostRuntime) -> Result<(), Fail> {
+    for (text, k, t, wanted) in ROWS {
+        assert_eq!(rt;
+            found_in(rt.alloc(), TASKS, text, k, t)?,
+            Some(wanted),
+            "{text}"
+        );
+    }
     for k in 0..5 {
         for t in 0..12 {
-            assert_eq!(rt;
-                found_at(&sheet, &run, k, t),
-                Some(NOTHING),
-                "job {k} and tick {t}"
-            );
+            let found = found_in(rt.alloc(), TASKS, DENSE, k, t)?;
+            assert_eq!(rt; found, Some(NOTHING), "job {k} and tick {t}");
         }
     }
     Ok(())
 }
 
+/// Which of four jobs fit, and which of the ticks of three jobs are valid.
 #[test]
-fn broken_runs(rt: HostRuntime) -> Result<(), Fail> {
-    let sheet = sheet_of(rt.alloc(), TASKS)?;
-    for (text, k, t, wanted) in ROWS {
-        let run = run_of(rt.alloc(), text)?;
-        assert_eq!(rt; found_at(&sheet, &run, k, t), Some(wanted), "{text}");
-    }
-    Ok(())
-}
-
-#[test]
-fn jobs_that_fit(rt: HostRuntime) -> Result<(), Fail> {
-    let sheet = sheet_of(rt.alloc(), TASKS)?;
-    let text = "poet-run 1\njobs 4 ticks 0\nj 0 0 1\nj 2 0 1\nj 1 0 3\nj 1 0 2\nend\n";
-    let run = run_of(rt.alloc(), text)?;
-    assert_eq!(rt; run.jobs.len(), 4);
-    let found = [
-        fits::<PerTask>(&sheet, &run, 0),
-        fits::<PerTask>(&sheet, &run, 1),
-        fits::<PerTask>(&sheet, &run, 2),
-        fits::<PerTask>(&sheet, &run, 3),
-    ];
-    assert_eq!(rt; found, [true, false, false, true]);
-    Ok(())
-}
-
-#[test]
-fn valid_ticks(rt: HostRuntime) -> Result<(), Fail> {
+fn jobs_that_fit_and_valid_ticks(rt: HostRuntime) -> Result<(), Fail> {
     let alloc = rt.alloc();
-    let text = "poet-run 1\njobs 3 ticks 0\nj 0 0 1\nj 0 1 3\nj 1 0 2\nend\n";
-    let rows = [
-        (Tick::Runs(1), false),
-        (Tick::Runs(1), false),
-        (Tick::Runs(2), true),
-        (Tick::Runs(0), true),
-        (Tick::Runs(0), false),
-        (Tick::Runs(3), false),
-        (Tick::Idle, true),
-        (Tick::Off, true),
-    ];
-    let run = Run {
-        jobs: run_of(alloc, text)?.jobs,
-        ticks: Items::new(rows.iter().map(|row| row.0).collect(alloc)?),
+    let sheet = sheet_of(alloc, TASKS)?;
+    let four = run_of(alloc, FOUR_JOBS)?;
+    let three = Run {
+        jobs: run_of(alloc, THREE_JOBS)?.jobs,
+        ticks: Items::new(TICKS.to_vec(alloc)?),
     };
-    assert_eq!(rt; run.jobs.len(), 3);
-    for (t, (_, wanted)) in rows.iter().enumerate() {
-        assert!(rt; t < run.ticks.len());
-        assert_eq!(rt; valid_at(&run, t as u64), *wanted, "tick {t}");
+    for (k, wanted) in [true, false, false, true].iter().enumerate() {
+        assert!(rt; k < four.jobs.len() && k < 4);
+        assert_eq!(rt;
+            fits::<PerTask>(&sheet, &four, k as u32),
+            *wanted,
+            "job {k}"
+        );
+    }
+    assert_eq!(rt; three.jobs.len(), 3);
+    for (t, wanted) in VALID.iter().enumerate() {
+        assert!(rt; t < three.ticks.len());
+        assert_eq!(rt; valid_at(&three, t as u64), *wanted, "tick {t}");
     }
     Ok(())
 }
@@ -209,19 +216,11 @@ fn valid_ticks(rt: HostRuntime) -> Result<(), Fail> {
 #[test]
 fn promised_ticks(rt: HostRuntime) -> Result<(), Fail> {
     let sheet = sheet_of(rt.alloc(), PROMISED)?;
-    let run = run_of(
-        rt.alloc(),
-        "poet-run 1\njobs 0 ticks 8\noff 2\nidle 2\noff 3\nidle 1\nend\n",
-    )?;
-    assert_eq!(rt; run.ticks.len(), 8);
+    let run = run_of(rt.alloc(), OFTEN_OFF)?;
     // Of ticks 4 to 6 one is promised, of ticks 0 to 7 four.
-    let found = [
-        short_at(&sheet, &run, 0),
-        short_at(&sheet, &run, 4),
-        short_at(&sheet, &run, 6),
-        short_at(&sheet, &run, 7),
-        short_at(&sheet, &run, 8),
-    ];
-    assert_eq!(rt; found, [false, false, false, true, true]);
+    for (u, wanted) in [(0, false), (4, false), (6, false), (7, true), (8, true)] {
+        assert!(rt; u <= run.ticks.len());
+        assert_eq!(rt; short_at(&sheet, &run, u as u64), wanted, "up to {u}");
+    }
     Ok(())
 }

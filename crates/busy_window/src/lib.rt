@@ -26,18 +26,3 @@ pub fn one_outsider<P: Policy, M: Preemption, S: Supply>()
 pub fn enough_inside<P: Policy, M: Preemption, S: Supply>()
     ensures { (supply : S) → EnoughInside P.meaning M.cuts (S.sbf supply) }
 {}
-
-#[cfg(test)]
-mod tests {
-    use super::{enough_inside, one_outsider, runs_inside};
-    use policy::Fp;
-    use preemption::FullCut;
-    use supply::Unit;
-
-    #[test]
-    fn laws_at_concrete_kinds() {
-        runs_inside::<Fp, FullCut, Unit>();
-        one_outsider::<Fp, FullCut, Unit>();
-        enough_inside::<Fp, FullCut, Unit>();
-    }
-}

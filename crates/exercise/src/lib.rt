@@ -9,6 +9,3 @@ mod running;
 pub use laws::exercise_succeeds;
 pub use outcome::Exercise;
 pub use running::exercise;
-
-#[cfg(test)]
-mod tests;

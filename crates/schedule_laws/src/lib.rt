@@ -12,6 +12,3 @@ pub use laws::{crowds_decide, tests_decide};
 pub use rules::{idle_broken, priority_broken, segment_broken};
 pub use supplied::short_at;
 pub use validity::{fits, valid_at};
-
-#[cfg(test)]
-mod tests;

@@ -40,18 +40,3 @@ pub fn points_bound<P: Policy, M: Preemption, S: Supply>()
     bound::<P, M, S>();
     from_points::<P, M, S>();
 }
-
-#[cfg(test)]
-mod tests {
-    use super::{bound, from_points, points_bound};
-    use policy::Edf;
-    use preemption::PerTask;
-    use supply::Unit;
-
-    #[test]
-    fn laws_at_concrete_kinds() {
-        bound::<Edf, PerTask, Unit>();
-        from_points::<Edf, PerTask, Unit>();
-        points_bound::<Edf, PerTask, Unit>();
-    }
-}

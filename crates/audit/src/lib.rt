@@ -19,6 +19,3 @@ mod verdict;
 pub use judging::audit;
 pub use laws::verdict_decides;
 pub use verdict::{AuditVerdict, Rule, Seen};
-
-#[cfg(test)]
-mod tests;

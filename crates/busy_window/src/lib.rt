@@ -36,18 +36,3 @@ pub fn enough_inside<P: Policy, M: Preemption, S: Supply>()
 {
     runs_inside::<P, M, S>();
 }
-
-#[cfg(test)]
-mod tests {
-    use super::{enough_inside, one_outsider, runs_inside};
-    use policy::Fp;
-    use preemption::FullCut;
-    use supply::Unit;
-
-    #[test]
-    fn laws_at_concrete_kinds() {
-        runs_inside::<Fp, FullCut, Unit>();
-        one_outsider::<Fp, FullCut, Unit>();
-        enough_inside::<Fp, FullCut, Unit>();
-    }
-}

@@ -10,6 +10,3 @@ pub use certs::{entry_failed, first_failed};
 pub use failed::{Cond, Failed};
 pub use laws::failed_means;
 pub use points::{gap_failed, point_failed};
-
-#[cfg(test)]
-mod tests;

@@ -7,6 +7,3 @@ mod parts;
 
 pub use laws::{demand_grows, need_fits};
 pub use needs::{blocking, need, others, own, rest, window_need};
-
-#[cfg(test)]
-mod tests;

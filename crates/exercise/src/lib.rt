@@ -11,6 +11,3 @@ pub use laws::{exercise_succeeds, generated_is_valid};
 pub use making::make_sheet;
 pub use outcome::Exercise;
 pub use running::exercise;
-
-#[cfg(test)]
-mod tests;

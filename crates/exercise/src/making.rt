@@ -95,29 +95,3 @@ fn halves(alloc: Global, cost: u64) -> Result<Vec<u64>, AllocError>
         Ok(vec![in alloc; cost / 2, cost - cost / 2]?)
     }
 }
-
-#[cfg(test)]
-mod tests {
-    use super::make_sheet;
-    use std::test::Fail;
-    use task_sheet::Cut;
-
-    /// Seed 7 gives the words 7191089600892374487, 309689372594955804, 16616101746815609346,
-    /// 10753165928301472203, so the scales are 38 and 47.
-    #[test]
-    fn first_tasks_of_seed_seven(rt: HostRuntime) -> Result<(), Fail> {
-        let sheet = make_sheet(rt.alloc(), 7, 64)?;
-        assert_eq!(rt; sheet.len(), 64);
-        let first = sheet.task(0);
-        assert_eq!(rt; first.name.as_str(), "t0");
-        assert_eq!(rt; first.cost, 15);
-        assert_eq!(rt; first.deadline, 4864);
-        assert_eq!(rt; first.curve.horizon(), 4864);
-        assert_eq!(rt; first.cut, Cut::Full);
-        let second = sheet.task(1);
-        assert_eq!(rt; second.cost, 5);
-        assert_eq!(rt; second.deadline, 6016);
-        assert_eq!(rt; second.cut, Cut::Never);
-        Ok(())
-    }
-}

@@ -14,6 +14,3 @@ pub use laws::{
 pub use rules::{idle_broken, priority_broken, segment_broken};
 pub use supplied::short_at;
 pub use validity::{fits, valid_at};
-
-#[cfg(test)]
-mod tests;

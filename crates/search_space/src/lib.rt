@@ -8,6 +8,3 @@ mod points;
 
 pub use laws::{across_gap, between_points};
 pub use points::{compared, is_point, is_same, next_point};
-
-#[cfg(test)]
-mod tests;

@@ -15,17 +15,3 @@ pub fn simulation_complies<P: Policy, M: Tabled, S: Supply>()
 pub fn dense_is_full<P: Policy, M: Preemption, S: Supply>()
     ensures { (supply : S) → S.is_supply supply → DenseIsFull P.meaning M.cuts (S.sbf supply) }
 {}
-
-#[cfg(test)]
-mod tests {
-    use super::{dense_is_full, simulation_complies};
-    use policy::Fp;
-    use preemption::PerTask;
-    use supply::Unit;
-
-    #[test]
-    fn laws_at_concrete_kinds() {
-        simulation_complies::<Fp, PerTask, Unit>();
-        dense_is_full::<Fp, PerTask, Unit>();
-    }
-}

@@ -12,6 +12,3 @@ mod words;
 pub use refusal::SimRefusal;
 pub use running::simulate;
 pub use simulated_run::Mode;
-
-#[cfg(test)]
-mod tests;

@@ -10,6 +10,3 @@ mod searches;
 pub use analysis::{AnalyseRefusal, analyse};
 pub use meaning::analysis_has_one_answer;
 pub use searches::{least_bound, least_end, least_window};
-
-#[cfg(test)]
-mod tests;

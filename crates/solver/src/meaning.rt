@@ -10,16 +10,3 @@ pub fn analysis_has_one_answer<P: Policy, M: Preemption, S: Supply>()
     ensures exists { (supply : S) → S.is_supply supply → BestIsAnswer P.meaning M.cuts (S.sbf supply) }
     ensures single { (supply : S) → OneAnswer P.meaning M.cuts (S.sbf supply) }
 {}
-
-#[cfg(test)]
-mod tests {
-    use super::analysis_has_one_answer;
-    use policy::Fp;
-    use preemption::PerTask;
-    use supply::Unit;
-
-    #[test]
-    fn law_at_concrete_kinds() {
-        analysis_has_one_answer::<Fp, PerTask, Unit>();
-    }
-}

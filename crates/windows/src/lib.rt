@@ -11,6 +11,3 @@ mod supplied;
 pub use crowds::first_crowded;
 pub use room::allowance;
 pub use supplied::{first_short, off_allowed};
-
-#[cfg(test)]
-mod tests;

@@ -1,0 +1,17 @@
+//! Tests of the analysis, over small sheets, certificates and runs that were worked out by hand.
+#![tactic(auto)]
+
+#[cfg(test)]
+mod best_certs;
+#[cfg(test)]
+mod compliance;
+#[cfg(test)]
+mod first_failures;
+#[cfg(test)]
+mod laws;
+#[cfg(test)]
+mod needs;
+#[cfg(test)]
+mod offsets;
+#[cfg(test)]
+mod sheets;

@@ -1,0 +1,42 @@
+//! Worked offsets of two tasks under their deadlines.
+use crate::sheets::{TWO_DEADLINES, sheet_of};
+use policy::{Edf, Fp};
+use search_space::{compared, is_point, is_same, next_point};
+use std::test::Fail;
+
+#[test]
+fn two_deadlines(rt: HostRuntime) -> Result<(), Fail> {
+    let sheet = sheet_of(rt.alloc(), TWO_DEADLINES)?;
+    assert_eq!(rt; sheet.len(), 2);
+    // A job of `b` that arrives with the window counts from offset 2 of `a` on.
+    let numbers = [
+        compared::<Edf>(&sheet, 0, 1, 1),
+        compared::<Edf>(&sheet, 0, 2, 1),
+        compared::<Edf>(&sheet, 0, 3, 0),
+        compared::<Edf>(&sheet, 0, 4, 0),
+    ];
+    assert_eq!(rt; numbers.as_slice(), [0, 1, 1, 2].as_slice());
+    let answers = [
+        is_same::<Edf>(&sheet, 0, 0, 1),
+        is_same::<Edf>(&sheet, 0, 0, 2),
+        is_point::<Edf>(&sheet, 0, 0),
+        is_point::<Edf>(&sheet, 0, 1),
+        is_point::<Edf>(&sheet, 0, 2),
+    ];
+    assert_eq!(rt;
+        answers.as_slice(),
+        [true, false, true, false, true].as_slice()
+    );
+    let next = [
+        next_point::<Edf>(&sheet, 0, 0, 4),
+        next_point::<Edf>(&sheet, 0, 0, 2),
+        next_point::<Edf>(&sheet, 1, 0, 4),
+        // Under fixed priorities only the task's own jobs count.
+        next_point::<Fp>(&sheet, 1, 0, 100),
+    ];
+    assert_eq!(rt;
+        next.as_slice(),
+        [Some(2), None, Some(2), Some(6)].as_slice()
+    );
+    Ok(())
+}

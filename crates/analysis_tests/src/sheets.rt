@@ -1,0 +1,32 @@
+//! Sheets that several tests share.
+use sheet_text::read_sheet;
+use std::alloc::Global;
+use std::test::Fail;
+use task_sheet::Sheet;
+
+/// Two tasks of cost 2 under their deadlines.
+pub const TWO_DEADLINES: &str = "
+policy = 'edf'
+task = [
+    { name = 'a', cost = 2, deadline = 4, period = 4 },
+    { name = 'b', cost = 2, deadline = 6, period = 6 },
+]";
+
+/// Eight tasks, in microseconds; the third comes in bursts of two.
+pub const EIGHT_TASKS: &str = "
+policy = 'fp'
+task = [
+    { name = 'motor', cost = 120, deadline = 1000, priority = 8, period = 1000 },
+    { name = 'sensor', cost = 200, deadline = 2000, priority = 7, period = 2000, preemption = 'never' },
+    { name = 'can_rx', cost = 80, deadline = 5000, priority = 6, curve = { horizon = 5000, steps = [[1, 2], [2500, 4]] } },
+    { name = 'control', cost = 600, deadline = 5000, priority = 5, period = 5000, preemption = { fixed = [200, 300, 100] } },
+    { name = 'filter', cost = 900, deadline = 10000, priority = 4, period = 10000, preemption = { floating = 250 } },
+    { name = 'logger', cost = 1500, deadline = 20000, priority = 3, period = 20000, preemption = { floating = 400 } },
+    { name = 'display', cost = 4000, deadline = 50000, priority = 2, period = 50000, preemption = { fixed = [500, 500, 500, 500, 500, 500, 500, 500] } },
+    { name = 'self_test', cost = 8000, deadline = 100000, priority = 1, period = 100000 },
+]";
+
+/// The sheet of this text.
+pub fn sheet_of(alloc: Global, text: &str) -> Result<Sheet, Fail> {
+    Ok(read_sheet(alloc, text.as_bytes())?)
+}

@@ -130,15 +130,12 @@ fn curve_of(alloc: Global, place: Place, value: &Value) -> Result<Prefix, SheetR
 }
 
 /// One job in each period.
-#[tactic(auto, using(crate::proofs::StepFacts::periodic_passes))]
 fn periodic(alloc: Global, place: Place, value: &Value) -> Result<Prefix, SheetRefusal>
     ensures gives { Gives (λ c. c) result (period_rule place (view value.now)) }
     ensures valid { IfOk result IsCurve }
 {
     let period = whole(value, place, Field::Period, 1, GREATEST)?;
-    let mut steps = Vec::new(alloc);
-    steps.push(Step { time: 1, value: 1 })?;
-    tested(place, period, steps)
+    Ok(Prefix::periodic(alloc, period)?)
 }
 
 /// The curve of task `n`, which has a period or a curve, and not both.

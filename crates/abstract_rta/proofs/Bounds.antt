@@ -6,8 +6,8 @@ use Rattle.policy.specs.PolicyMeaning.{PolicyMeaning}
 use Rattle.preemption.specs.CutMeaning.{CutMeaning}
 use Rattle.run_model.specs.Runs.{job_at, service_of, IsDone}
 use Rattle.schedule_laws.specs.Bounded.{IsBounded}
-use Rattle.demand.specs.Meeting.{IsWindow, MeetsAt}
 use Rattle.busy_window.specs.Busy.{IsQuiet}
+use Rattle.demand.specs.Meeting.{IsWindow, MeetsAt}
 use Rattle.abstract_rta.proofs.Setting.{BoundLaws, Setting, setting_of, of_sheet}
 use Rattle.abstract_rta.proofs.Quiet.{last_quiet}
 use Rattle.abstract_rta.proofs.Classes.{of_class, class_short}

@@ -10,7 +10,7 @@ use Rattle.policy.specs.Offsets.{IsSame}
 use Rattle.search_space.specs.PointLaws.{AcrossGap}
 use Rattle.demand.specs.Meeting.{MeetsEnd, MeetsBound, MeetsAt, PointsMeet}
 use Rattle.abstract_rta.specs.Bounds.{point_at, IsEndFor, HasEnds}
-use Rattle.abstract_rta.proofs.Gaps.{meets_across}
+use Rattle.abstract_rta.proofs.Across.{meets_across}
 
 -- the end of the last point whose offset is at most a, where offsets rise; before, where there is none
 abbrev pub end_for : ℕ → List (ℕ × ℕ) → ℕ → ℕ

@@ -6,5 +6,5 @@ pub mod Caps
 pub mod Classes
 pub mod Targets
 pub mod Bounds
-pub mod Gaps
+pub mod Across
 pub mod Ends

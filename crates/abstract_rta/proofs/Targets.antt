@@ -13,8 +13,8 @@ use Rattle.run_model.specs.Runs.{job_at, tick_at, service_of}
 use Rattle.run_model.proofs.ServiceFacts.{service_le, same_job, not_off}
 use Rattle.schedule_laws.specs.Compliance.{can_cut}
 use Rattle.demand.specs.Demand.{rest_of, own_of, others_of, blocking_of, need_of, other_of}
-use Rattle.demand.specs.Meeting.{MeetsEnd, MeetsBound}
 use Rattle.busy_window.specs.Busy.{IsUpSet, IsQuiet, IsBusy}
+use Rattle.demand.specs.Meeting.{MeetsEnd, MeetsBound}
 use Rattle.abstract_rta.proofs.Setting.{Setting, ran, in_order, of_sheet, fit_of, segment_of}
 use Rattle.abstract_rta.proofs.Quiet.{IsLate, still_pending}
 use Rattle.abstract_rta.proofs.Service.{inside_since, supply_served}

@@ -21,4 +21,6 @@ mod sheets;
 #[cfg(test)]
 mod shelves;
 #[cfg(test)]
+mod stairs;
+#[cfg(test)]
 mod supplies;

@@ -1,4 +1,4 @@
--- Step "From listed points to every offset" of docs/ANALYSIS.md: no need grows from an offset to a later one that no number tells apart from it.
+-- What a job at an offset needs is no more than at an earlier offset that no number tells apart from it.
 use Rattle.std.proofs.Common.{◌≡◌, ℕ, zero, suc, ◌+◌, ◌*◌, ◌<◌, ◌≤◌, ◌≢◌, ◌==◌, min, Bool, true, false, cond, not, length, refl, sym, ap, inl, inr, arith, add-suc, add-zero, add-one, eq-eqb}
 use Rattle.std.proofs.lemmas.Bool.{cases_lt, and_from, and_parts, eqb-false, ne_eqb, not-true}
 use Rattle.std.proofs.Math.Nat.{mul-le-mul_left}
@@ -9,10 +9,10 @@ use Rattle.curve.specs.Validity.{IsCurve}
 use Rattle.curve.proofs.CurveFacts.{alpha_mono}
 use Rattle.task_sheet.specs.SheetParts.{SheetParts}
 use Rattle.task_sheet.specs.Sheets.{IsValidSheet, task_at}
+use Rattle.policy.specs.Offsets.{cap_count, IsSame}
 use Rattle.policy.specs.declared.keys.Cap.{Cap}
 use Rattle.policy.specs.declared.keys.Cap.TheVariants.{Nothing, At, All}
 use Rattle.policy.specs.Keys.{not_below_zero}
-use Rattle.policy.specs.Offsets.{cap_count, IsSame}
 use Rattle.policy.specs.PolicyLaws.{GrowsTo, IsLawfulPolicy}
 use Rattle.policy.specs.PolicyMeaning.{PolicyMeaning}
 use Rattle.preemption.specs.CutMeaning.{CutMeaning}

@@ -1,6 +1,6 @@
 //! What a seed makes: words, a sheet, and whole exercises.
 use exercise::{Exercise, exercise};
-use generated_sheet::make_sheet;
+use exercise::make_sheet;
 use rand_core::SeedableRng;
 use rand_core::utils::NextWord;
 use rand_xoshiro::SplitMix64;

@@ -18,16 +18,16 @@ const FOUND: [(u64, Ends); 8] = [
     (4_000_000_000, (2_000_000_000, 4_000_000_000, 4_000_000_001)),
 ];
 
-/// From 0 on, one after the other: one step on, no step, over a horizon, far on, and back.
-const WALKED: [(u64, Ends); 8] = [
-    (1, (2, 1, 4)),
-    (3, (2, 1, 4)),
-    (4, (3, 4, 9)),
-    (9, (5, 9, 11)),
-    (10, (5, 9, 11)),
-    (11, (7, 11, 14)),
-    (29, (15, 29, 31)),
-    (5, (3, 4, 9)),
+/// What `walk` meets on that curve.
+const WALKED: [Ends; 8] = [
+    (2, 1, 4),
+    (2, 1, 4),
+    (3, 4, 9),
+    (5, 9, 11),
+    (5, 9, 11),
+    (7, 11, 14),
+    (15, 29, 31),
+    (3, 4, 9),
 ];
 
 /// Of a job in seven ticks: a length and its jobs, a seventh of it rounded up.
@@ -35,6 +35,29 @@ const SEVENTHS: [(u64, u128); 5] = [(0, 0), (1, 1), (7, 1), (8, 2), (15, 3)];
 
 fn ends(stair: Stair) -> Ends {
     (stair.value, stair.from, stair.until)
+}
+
+/// The stairs at 1, 3, 4, 9, 10, 11, 29 and 5, each from the one before: one step on, no step, over a
+/// horizon, far on, and back.
+fn walk(curve: &Prefix) -> [Ends; 8] {
+    let first = curve.stair_to(curve.stair(0), 1);
+    let stayed = curve.stair_to(first, 3);
+    let second = curve.stair_to(stayed, 4);
+    let third = curve.stair_to(second, 9);
+    let at_horizon = curve.stair_to(third, 10);
+    let past_horizon = curve.stair_to(at_horizon, 11);
+    let far = curve.stair_to(past_horizon, 29);
+    let back = curve.stair_to(far, 5);
+    [
+        ends(first),
+        ends(stayed),
+        ends(second),
+        ends(third),
+        ends(at_horizon),
+        ends(past_horizon),
+        ends(far),
+        ends(back),
+    ]
 }
 
 #[test]
@@ -48,11 +71,7 @@ fn stairs_of_three_steps(rt: HostRuntime) -> Result<(), Fail> {
     for (d, want) in FOUND {
         assert_eq!(rt; ends(curve.stair(d)), want, "at {d}");
     }
-    let mut stair = curve.stair(0);
-    for (d, want) in WALKED {
-        stair = curve.stair_to(stair, d);
-        assert_eq!(rt; ends(stair), want, "to {d}");
-    }
+    assert_eq!(rt; walk(&curve), WALKED);
     Ok(())
 }
 

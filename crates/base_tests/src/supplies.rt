@@ -66,7 +66,7 @@ fn two_of_four_ticks(rt: HostRuntime) -> Result<(), Fail> {
         return Err("another supply").map_err(Fail::from);
     };
     let copy = times.as_slice().to_vec(rt.alloc())?;
-    let promised = Promised::new(*horizon, Items::new(copy));
+    let promised = Promised::new(*horizon, copy);
     supplies(&rt, &promised, &HALF, &HALF_LEAST);
     assert!(rt; !Promised::WHOLE);
     Ok(())

@@ -3,7 +3,7 @@
 use std::alloc::AllocError;
 
 /// Why bytes gave no certificate.
-#[derive(Debug, PartialEq, Drop)]
+#[derive(Clone, Copy, Debug, PartialEq, Eq)]
 pub enum CertRefusal {
     /// They are no certificate's text. The line counts from 1.
     Text { line: u64 },

@@ -13,7 +13,7 @@ pub enum Cond {
     K4,
     /// No offset is missing up to the next, or to the window's end.
     K5,
-    /// The end is at most the offset and the bound.
+    /// The end is at most the offset plus the bound.
     K6,
     /// The supply up to the end covers the demand.
     K7,

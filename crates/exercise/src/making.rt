@@ -1,9 +1,9 @@
 //! The sheet that a seed makes.
 ghost use Rattle.std.specs.Prelude.{◌≡◌, ◌+◌, ◌*◌, ◌%◌, ◌≤◌, ◌<◌, IfOk};
 ghost use Rattle.simulated_run.specs.Words.{word, next};
-ghost use Rattle.exercise.specs.GeneratedSheet.{cut_by, curve_of, halves as halves_of, task_by, generated_sheet};
+ghost use Rattle.exercise.specs.GeneratedSheet.{cut_by, halves as halves_of, task_by, generated_sheet};
 
-use curve::{Prefix, Step};
+use curve::Prefix;
 use lists::{Items, Text};
 use rand_core::SeedableRng;
 use rand_core::utils::NextWord;
@@ -54,22 +54,9 @@ fn make_task(alloc: Global, i: u32, period: u64, cost: u64) -> Result<Task, Allo
         cost,
         deadline: period,
         priority: 0,
-        curve: periodic(alloc, period)?,
+        curve: Prefix::periodic(alloc, period)?,
         cut: make_cut(alloc, i, cost)?,
     })
-}
-
-/// The curve of one job in each period.
-fn periodic(alloc: Global, period: u64) -> Result<Prefix, AllocError>
-    requires low { 1 ≤ period }
-    requires high { period ≤ 1000000000 }
-    ensures { IfOk result (λ curve. curve ≡ curve_of period) }
-{
-    let steps = vec![in alloc; Step { time: 1, value: 1 }]?;
-    match Prefix::check(period, steps) {
-        Ok(curve) => Ok(curve),
-        Err(_) => unreachable!(),
-    }
 }
 
 /// The four kinds of cuts take turns.

@@ -1,3 +1,4 @@
+-- proofs of the laws; nothing here is to be believed
 use Rattle.std.proofs.Common.{◌≡◌, ℕ, ◌+◌, ◌≤◌, Bool, true, false, cond, refl, sym, ap, subst, inl, inr, arith, leb, pos, ◌+ℤ◌, ◌-ℤ◌, ◌<ℤ◌}
 use Rattle.std.proofs.lemmas.Int.{ints}
 use Rattle.std.proofs.lemmas.Bool.{ltb-true}

@@ -16,7 +16,7 @@ fn is_on(tick: Tick) -> bool
     }
 }
 
-/// Whether some window that ends with tick `u` has fewer supplied ticks than promised.
+/// Whether some window that ends before tick `u` has fewer supplied ticks than promised.
 pub fn short_at<S: Supply>(supply: &S, run: &Run, u: u64) -> bool
     requires tick { u ≤ length run.now.ticks }
     ensures { IsTrue result ↔ IsShort (S.sbf supply.now) run.now u }

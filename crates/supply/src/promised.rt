@@ -32,11 +32,14 @@ impl Model for Promised {
 
 impl Promised {
     /// The promise of a horizon and times, in ticks.
-    pub fn new(horizon: u64, times: Items<u64>) -> Promised
-        requires { IsPromise (PromisedBy horizon times) }
-        ensures { result ≡ record { horizon = horizon; times = times } }
+    pub fn new(horizon: u64, times: Vec<u64>) -> Promised
+        requires { IsPromise (PromisedBy horizon times.items) }
+        ensures { result ≡ record { horizon = horizon; times = times.items } }
     {
-        Promised { horizon, times }
+        Promised {
+            horizon,
+            times: Items::new(times),
+        }
     }
 }
 

@@ -17,6 +17,3 @@ pub use reading::read_cert;
 pub use refusal::CertRefusal;
 pub use step::LineStep;
 pub use writing::write_cert;
-
-#[cfg(test)]
-mod tests;

@@ -7,6 +7,3 @@ mod table;
 
 pub use object::json_report;
 pub use table::text_report;
-
-#[cfg(test)]
-mod tests;

@@ -14,6 +14,3 @@ pub use laws::{stretches_expand, text_has_one_reading};
 pub use reading::read_run;
 pub use refusal::RunRefusal;
 pub use writing::write_run;
-
-#[cfg(test)]
-mod tests;

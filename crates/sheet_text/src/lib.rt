@@ -12,6 +12,3 @@ mod tasks;
 
 pub use printing::print_sheet;
 pub use reading::read_sheet;
-
-#[cfg(test)]
-mod tests;

@@ -1,0 +1,129 @@
+//! Certificates written by hand.
+use certificate::{Cert, CertRefusal, Entry, LineStep, Lines, read_cert, write_cert};
+use lists::Items;
+use std::alloc::{AllocError, Global};
+use std::test::Fail;
+
+/// A window, a bound, and the points.
+type Row = (u64, u64, &'static [(u64, u64)]);
+
+/// A certificate of one task with one point, and one of three tasks, with numbers at the ends of
+/// their ranges.
+const WRITTEN: [(&[u8], &[Row]); 2] = [
+    (
+        b"poet-cert 1\ntasks 1\ntask 0 2 2 1\np 0 2\nend\n",
+        &[(2, 2, &[(0, 2)])],
+    ),
+    (
+        b"poet-cert 1\ntasks 3\ntask 0 619 619 1\np 0 619\n\
+        task 1 819 0 2\np 0 620\np 7 1000000000\n\
+        task 2 1000000000 20 3\np 1 0\np 0 9\np 10 10\nend\n",
+        &[
+            (619, 619, &[(0, 619)]),
+            (819, 0, &[(0, 620), (7, 1_000_000_000)]),
+            (1_000_000_000, 20, &[(1, 0), (0, 9), (10, 10)]),
+        ],
+    ),
+];
+
+/// Bytes that are no certificate's text, and the line of the first byte that is wrong or missing.
+const REFUSED: [(&[u8], u64); 15] = [
+    // `end` is missing.
+    (b"poet-cert 1\ntasks 1\ntask 0 2 2 1\np 0 2\n", 5),
+    // The newline of `end` is missing.
+    (b"poet-cert 1\ntasks 1\ntask 0 2 2 1\np 0 2\nend", 5),
+    // A leading zero.
+    (b"poet-cert 1\ntasks 1\ntask 0 2 2 1\np 0 02\nend\n", 4),
+    // A space at the end of a line.
+    (b"poet-cert 1\ntasks 1\ntask 0 2 2 1\np 0 2 \nend\n", 4),
+    // An empty line behind `end`.
+    (b"poet-cert 1\ntasks 1\ntask 0 2 2 1\np 0 2\nend\n\n", 6),
+    // CR LF.
+    (
+        b"poet-cert 1\r\ntasks 1\r\ntask 0 2 2 1\r\np 0 2\r\nend\r\n",
+        1,
+    ),
+    (b"", 1),
+    (b"poet-cert 1\ntasks 0\nend\n", 2),
+    (b"poet-cert 1\ntasks 257\n", 2),
+    (b"poet-cert 1\ntasks 1\ntask 1 2 2 1\np 0 2\nend\n", 3),
+    (
+        b"poet-cert 1\ntasks 1\ntask 0 1000000001 2 1\np 0 2\nend\n",
+        3,
+    ),
+    (b"poet-cert 1\ntasks 1\ntask 0 2 2 0\nend\n", 3),
+    (b"poet-cert 1\ntasks 1\ntask 0 2 2 1000001\np 0 2\nend\n", 3),
+    // A point is missing.
+    (b"poet-cert 1\ntasks 1\ntask 0 2 2 2\np 0 2\nend\n", 5),
+    // A point too many.
+    (
+        b"poet-cert 1\ntasks 1\ntask 0 2 2 1\np 0 2\np 1 2\nend\n",
+        5,
+    ),
+];
+
+fn make_cert(alloc: Global, rows: &[Row]) -> Result<Cert, AllocError> {
+    let mut entries = Vec::new(alloc);
+    for (window, bound, points) in rows {
+        entries.push(Entry {
+            window: *window,
+            bound: *bound,
+            points: Items::new(points.to_vec(alloc)?),
+        })?;
+    }
+    Ok(Cert {
+        entries: Items::new(entries),
+    })
+}
+
+#[test]
+fn texts_are_read_and_written(rt: HostRuntime) -> Result<(), Fail> {
+    let alloc = rt.alloc();
+    for (text, rows) in WRITTEN {
+        let cert = read_cert(alloc, text)?;
+        assert_eq!(rt; cert, make_cert(alloc, rows)?);
+        assert_eq!(rt; write_cert(alloc, &cert)?.as_slice(), text);
+    }
+    Ok(())
+}
+
+#[test]
+fn malformed_texts_are_refused_at_their_line(rt: HostRuntime) {
+    for (bytes, line) in REFUSED {
+        let answer = read_cert(rt.alloc(), bytes);
+        assert_eq!(rt; answer, Err(CertRefusal::Text { line }));
+    }
+}
+
+/// What the line says that these bytes end.
+fn feed(lines: &mut Lines, bytes: &[u8]) -> LineStep {
+    let mut step = LineStep::Bad;
+    for byte in bytes {
+        step = lines.feed(*byte);
+    }
+    step
+}
+
+#[test]
+fn each_line_says_what_it_means(rt: HostRuntime) {
+    let entry = LineStep::Entry {
+        task: 0,
+        window: 2,
+        bound: 2,
+        count: 1,
+    };
+    let cases = [
+        (b"poet-cert 1\n".as_slice(), LineStep::More, false),
+        (b"tasks 1\n", LineStep::Tasks(1), false),
+        (b"task 0 2 2 1\n", entry, false),
+        (b"p 0 2\n", LineStep::Point { offset: 0, end: 2 }, false),
+        (b"end\n", LineStep::End, true),
+        (b"\n", LineStep::Bad, false),
+    ];
+    let mut lines = Lines::new();
+    for (bytes, meaning, is_over) in cases {
+        assert_eq!(rt; feed(&mut lines, bytes), meaning);
+        assert_eq!(rt; lines.is_over(), is_over);
+    }
+    assert_eq!(rt; lines.line(), 6);
+}

@@ -1,0 +1,183 @@
+//! Sheets written by hand.
+use sheet_text::{print_sheet, read_sheet};
+use std::alloc::{AllocError, Global};
+use std::test::Fail;
+use task_sheet::{Field, Place, SheetRefusal};
+
+/// Texts with the first rule that each breaks.
+const REFUSED: [(&[u8], SheetRefusal); 12] = [
+    (
+        b"",
+        SheetRefusal::Missing {
+            place: Place::Top,
+            field: Field::Policy,
+        },
+    ),
+    (
+        b"policy = \"fp\"",
+        SheetRefusal::Missing {
+            place: Place::Top,
+            field: Field::Task,
+        },
+    ),
+    (
+        b"policy = \"fp\"\ntask = []\n",
+        SheetRefusal::Range {
+            place: Place::Top,
+            field: Field::Task,
+        },
+    ),
+    (
+        b"policy = \"edf\"\n[[task]]\nname = \"a\"\ncost = 2.0\n",
+        SheetRefusal::Kind {
+            place: Place::Task(0),
+            field: Field::Cost,
+        },
+    ),
+    (
+        b"policy = \"edf\"\n[[task]]\nname = \"a\"\ncolour = 1\n",
+        SheetRefusal::Unknown {
+            place: Place::Task(0),
+        },
+    ),
+    (
+        b"policy = \"edf\"\n[[task]]\nname = \"a\"\ncost = 1000000001\n",
+        SheetRefusal::Range {
+            place: Place::Task(0),
+            field: Field::Cost,
+        },
+    ),
+    (
+        b"policy = \"edf\"\n[[task]]\nname = \"a\"\ncost = 9223372036854775807\n",
+        SheetRefusal::Range {
+            place: Place::Task(0),
+            field: Field::Cost,
+        },
+    ),
+    (
+        b"policy = \"edf\"\n[[task]]\nname = \"a\"\ncost = 9223372036854775808\n",
+        SheetRefusal::Text,
+    ),
+    (
+        b"policy = \"edf\"\n[[task]]\nname = \"a\"\ncost = 2\ndeadline = 9\n\
+        curve = { horizon = 5, steps = [[0, 1]] }\n",
+        SheetRefusal::Range {
+            place: Place::Task(0),
+            field: Field::CurveSteps,
+        },
+    ),
+    (
+        b"policy = \"edf\"\n[[task]]\nname = \"a\"\ncost = 4\ndeadline = 9\nperiod = 9\n\
+        preemption = { fixed = [1, 2] }\n",
+        SheetRefusal::Sum { task: 0 },
+    ),
+    (
+        b"policy = \"edf\"\n[[task]]\nname = \"a\"\ncost = 4\ndeadline = 9\nperiod = 9\n\
+        [[task]]\nname = \"a\"\n",
+        SheetRefusal::Twice { task: 1 },
+    ),
+    (b"\xFF", SheetRefusal::Text),
+];
+
+/// One sheet: with CR LF, with a mark of the byte order, and in line.
+const SPELLINGS: [&[u8]; 3] = [
+    b"policy = \"edf\"\r\n[[task]]\r\nname = \"a\"\r\ncost = 1\r\ndeadline = 4\r\nperiod = 4\r\n",
+    b"\xEF\xBB\xBFpolicy = \"edf\"\n[[task]]\nname = \"a\"\ncost = 1\ndeadline = 4\nperiod = 4\n",
+    b"policy = \"edf\"\ntask = [{ name = \"a\", cost = 1, deadline = 4, period = 4 }]",
+];
+
+const TWO_TASKS: &[u8] = b"policy = \"fp\"\n
+[[task]]\nname = \"a\"\ncost = 1\ndeadline = 4\npriority = 2\nperiod = 4\n
+[[task]]\nname = \"b\"\ncost = 2\ndeadline = 6\npriority = 1\nperiod = 6\n";
+
+const FIRST_PRINTED: &[u8] = b"policy = \"fp\"\n
+[[task]]\ncost = 1\ndeadline = 4\nname = \"a\"\npreemption = \"full\"\npriority = 2\n
+[task.curve]\nhorizon = 4\nsteps = [[1, 1]]\n
+[[task]]\ncost = 2\n";
+
+const EVERY_FORM: &[u8] = b"policy = \"edf\"\n
+[supply]\nhorizon = 4\ntimes = [3, 4]\n
+[[task]]\ncost = 3\ndeadline = 9\nname = \"x'y\"\npreemption = \"never\"\npriority = 0\n
+[task.curve]\nhorizon = 50\nsteps = [[1, 2], [25, 4]]\n
+[[task]]\ncost = 3\ndeadline = 9\nname = \"y\"\npriority = 0\n
+[task.curve]\nhorizon = 9\nsteps = [[1, 1]]\n
+[task.preemption]\nfixed = [1, 2]\n
+[[task]]\ncost = 3\ndeadline = 9\nname = \"z\"\npriority = 1000000000\n
+[task.curve]\nhorizon = 9\nsteps = [[1, 1]]\n
+[task.preemption]\nfloating = 3\n";
+
+#[test]
+fn refused_sheets(rt: HostRuntime) {
+    for (text, refusal) in REFUSED {
+        let found = read_sheet(rt.alloc(), text).err();
+        assert_eq!(rt; found, Some(refusal));
+    }
+}
+
+/// So many pieces, and so many others behind them.
+fn pieces(
+    alloc: Global,
+    front: &[u8],
+    piece: &[u8],
+    back: &[u8],
+    count: u32,
+) -> Result<Vec<u8>, AllocError> {
+    let mut text = Vec::from_slice(alloc, front)?;
+    for _ in 0..count {
+        text.extend_from_slice(piece)?;
+    }
+    for _ in 0..count {
+        text.extend_from_slice(back)?;
+    }
+    Ok(text)
+}
+
+#[test]
+fn too_many_tasks_and_brackets(rt: HostRuntime) -> Result<(), Fail> {
+    let alloc = rt.alloc();
+    let place = Place::Top;
+    let tasks = pieces(alloc, b"policy = \"fp\"\n", b"[[task]]\n", b"", 257)?;
+    let many = Some(SheetRefusal::Range {
+        place,
+        field: Field::Task,
+    });
+    assert_eq!(rt; read_sheet(alloc, &tasks).err(), many);
+    let nested = pieces(alloc, b"policy = ", b"[", b"]", 80)?;
+    let list = Some(SheetRefusal::Kind {
+        place,
+        field: Field::Policy,
+    });
+    assert_eq!(rt; read_sheet(alloc, &nested).err(), list);
+    let deep = pieces(alloc, b"policy = ", b"[", b"]", 81)?;
+    assert_eq!(rt; read_sheet(alloc, &deep).err(), Some(SheetRefusal::Text));
+    Ok(())
+}
+
+#[test]
+fn reads_other_spellings(rt: HostRuntime) -> Result<(), Fail> {
+    for text in SPELLINGS {
+        let sheet = read_sheet(rt.alloc(), text)?;
+        assert_eq!(rt; sheet.len(), 1);
+    }
+    Ok(())
+}
+
+#[test]
+fn prints_two_tasks(rt: HostRuntime) -> Result<(), Fail> {
+    let sheet = read_sheet(rt.alloc(), TWO_TASKS)?;
+    let text = print_sheet(rt.alloc(), &sheet)?;
+    assert!(rt; text.as_slice().starts_with(FIRST_PRINTED));
+    let again = read_sheet(rt.alloc(), text.as_slice())?;
+    assert_eq!(rt; again.len(), 2);
+    assert_eq!(rt; again.task(1).name.as_str(), "b");
+    assert_eq!(rt; again.task(1).curve.at(7), 2);
+    Ok(())
+}
+
+#[test]
+fn prints_every_form(rt: HostRuntime) -> Result<(), Fail> {
+    let sheet = read_sheet(rt.alloc(), EVERY_FORM)?;
+    let text = print_sheet(rt.alloc(), &sheet)?;
+    assert_eq!(rt; text.as_slice(), EVERY_FORM);
+    Ok(())
+}

@@ -6,6 +6,3 @@ mod prefix;
 
 pub use checking::CurveRefusal;
 pub use prefix::{Prefix, Step};
-
-#[cfg(test)]
-mod tests;

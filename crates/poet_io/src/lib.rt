@@ -20,6 +20,3 @@ pub use pushing::{push_field, push_number};
 pub use shelf::{ReadRefusal, Shelf, ShelfFault, read_whole};
 pub use sink::{Sink, SinkFault, write_all, write_parts};
 pub use std_sink::StdSink;
-
-#[cfg(test)]
-mod tests;

@@ -12,6 +12,3 @@ pub use fifo::Fifo;
 pub use fp::Fp;
 pub use keys::{Cap, Key};
 pub use policy::Policy;
-
-#[cfg(test)]
-mod tests;

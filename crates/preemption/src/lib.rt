@@ -15,6 +15,3 @@ pub use full::FullCut;
 pub use never::NeverCut;
 pub use per_task::PerTask;
 pub use preemption::Preemption;
-
-#[cfg(test)]
-mod tests;

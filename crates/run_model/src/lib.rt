@@ -6,6 +6,3 @@ mod run;
 
 pub use progress::{is_done, is_pending, service};
 pub use run::{Run, Tick};
-
-#[cfg(test)]
-mod tests;

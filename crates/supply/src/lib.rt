@@ -10,6 +10,3 @@ mod windows;
 pub use promised::Promised;
 pub use supply::Supply;
 pub use unit::Unit;
-
-#[cfg(test)]
-mod tests;

@@ -10,6 +10,3 @@ pub use checking::{check_cut, check_supply, is_name};
 pub use refusal::{Field, Place, SheetRefusal};
 pub use sheet::Sheet;
 pub use tasks::{Cut, Job, PolicyKind, SupplySpec, Task};
-
-#[cfg(test)]
-mod tests;

@@ -60,21 +60,17 @@ fn command_ending<H: Shelf>(
 }
 
 /// How the program ends.
-fn ending_of<H: Shelf>(
-    alloc: Global,
-    words: &Vec<String>,
-    shelf: &mut H,
-) -> Result<Printed, Refusal>
+fn ending_of<H: Shelf>(alloc: Global, words: &[String], shelf: &mut H) -> Result<Printed, Refusal>
     ensures files { H.files shelf.new ≡ H.files shelf.old }
     ensures later { H.faults shelf.old ≤ H.faults shelf.new }
     ensures closed { IfErr result (IsShut (H.is_open shelf.new)) }
-    ensures got { Got (answer_of (map string_bytes words.now.items))
-        (MayFail (map string_bytes words.now.items) (H.files shelf.old))
+    ensures got { Got (answer_of (map string_bytes words.now))
+        (MayFail (map string_bytes words.now) (H.files shelf.old))
         (H.files shelf.old) (H.faults shelf.old) (H.faults shelf.new) result }
-    ensures usage { (result ≡ Err Refusal.Usage) ↔ (command_in (map string_bytes words.now.items) ≡ None) }
+    ensures usage { (result ≡ Err Refusal.Usage) ↔ (command_in (map string_bytes words.now) ≡ None) }
     ensures sound { IfOk result (IsSound
-        (IfTold (H.files shelf.old) (Headline (command_in (map string_bytes words.now.items))))
-        (IfTold (H.files shelf.old) (Objection (command_in (map string_bytes words.now.items))))) }
+        (IfTold (H.files shelf.old) (Headline (command_in (map string_bytes words.now))))
+        (IfTold (H.files shelf.old) (Objection (command_in (map string_bytes words.now))))) }
 {
     match command_of(words) {
         Some(command) => command_ending(alloc, command, shelf),

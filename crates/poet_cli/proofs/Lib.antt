@@ -1,4 +1,5 @@
-pub mod LineFacts
+pub mod EndingFacts
+pub mod StepFacts
 mod SeenFacts
 mod LengthFacts
 mod AnalysisFacts

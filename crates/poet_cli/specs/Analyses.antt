@@ -1,6 +1,6 @@
 -- What an analysis promises: of the certificate that it prints, or where it says that there is none.
-use Rattle.std.specs.Prelude.{◌≡◌, ◌≤◌, ℕ, false, List, length, Option, Some, Ok}
-use Rattle.poet_io.specs.Shelves.{Files, IfTold}
+use Rattle.std.specs.Prelude.{◌≡◌, ◌≤◌, ℕ, false, List, length, Some, Ok}
+use Rattle.poet_io.specs.Shelves.{Files}
 use Rattle.task_sheet.specs.SheetParts.{SheetParts}
 use Rattle.sheet_text.specs.SheetRows.{sheet_of_text}
 use Rattle.policy.specs.PolicyMeaning.{PolicyMeaning}
@@ -13,12 +13,11 @@ use Rattle.cert_check.specs.declared.judging.Verdict.TheVariants as verdict
 use Rattle.cert_check.specs.Verdicts.{bounds_of, verdict_of, AreSound}
 use Rattle.solver.specs.declared.analysis.AnalyseRefusal.{AnalyseRefusal}
 use Rattle.solver.specs.Best.{IsUpTo, NoneSmaller, NoneMeets, NoneWhereNoBound}
-use Rattle.poet_cli.specs.declared.printed.Printed.{Printed}
 use Rattle.poet_cli.specs.declared.printed.Printed.TheVariants as printed
-use Rattle.poet_cli.specs.declared.judged.Judged.TheVariants as judged
 use Rattle.poet_cli.specs.declared.refusal.Source.TheVariants as source
 use Rattle.poet_cli.specs.Refusals.{limit_of}
-use Rattle.poet_cli.specs.Answers.{best_for, judged_in}
+use Rattle.poet_cli.specs.Printing.{accepted_text}
+use Rattle.poet_cli.specs.Answers.{best_for, rest_of}
 
 -- the numbers are up to the horizon, the certificate's text is within the limit of its file and is accepted,
 -- its bounds hold in every compliant run, and no certificate that meets the conditions has a smaller window
@@ -35,9 +34,9 @@ pub record IsBestBy (p : PolicyMeaning) (sheet : SheetParts) (horizon : ℕ) (ce
 abbrev pub IsNoneBy : PolicyMeaning → SheetParts → ℕ → AnalyseRefusal → Type 0
 IsNoneBy p sheet horizon refusal = NoneWhereNoBound p per_task_meaning (sbf_of sheet.supply) sheet horizon refusal
 
--- in a file of any name check accepts the certificate's text, with its bounds
+-- in a file of any name check accepts the certificate's text, and prints its bounds
 abbrev pub Checks : SheetParts → Cert → Type 0
-Checks sheet cert = (name : List ℕ) (files : Files) → files name ≡ Some (text_of cert) → judged_in sheet false name files ≡ Ok (judged.Accepted (bounds_of cert))
+Checks sheet cert = (name : List ℕ) (files : Files) → files name ≡ Some (text_of cert) → rest_of sheet false name files ≡ Ok (printed.Done (accepted_text sheet (bounds_of cert)))
 
 -- the best certificate of a sheet, by its own policy
 pub record BestHolds (sheet : SheetParts) (horizon : ℕ) : Type 0 where
@@ -65,12 +64,3 @@ pub record NothingMeets (name : List ℕ) (horizon : ℕ) (files : Files) : Type
   pub sheet : SheetParts
   pub reads : sheet_of_text bytes ≡ Ok sheet
   pub none : NoneHolds sheet horizon
-
--- what is printed of an analysis is true
-abbrev pub IsSoundAnalysis : SheetParts → ℕ → Printed → Type 0
-IsSoundAnalysis sheet horizon (printed.Done text) = BestHolds sheet horizon
-IsSoundAnalysis sheet horizon (printed.JudgedNo text) = NoneHolds sheet horizon
-
-abbrev pub IsSoundAnalysisOf : List ℕ → ℕ → Option Files → Printed → Type 0
-IsSoundAnalysisOf name horizon told (printed.Done text) = IfTold told (AnalysisHolds name horizon)
-IsSoundAnalysisOf name horizon told (printed.JudgedNo text) = IfTold told (NothingMeets name horizon)

@@ -1,3 +1,4 @@
+-- The answers of `check` and `analyse`.
 use Rattle.std.specs.Prelude.{◌≡◌, ℕ, Bool, List, length, Option, Some, None, Result, Ok, Err, IsOk, nat_le, if◌then◌else◌}
 use Rattle.poet_io.specs.Shelves.{Files, IfTold}
 use Rattle.task_sheet.specs.SheetParts.{SheetParts}
@@ -19,13 +20,10 @@ use Rattle.poet_cli.specs.declared.refusal.Source.{Source}
 use Rattle.poet_cli.specs.declared.refusal.Source.TheVariants as source
 use Rattle.poet_cli.specs.declared.refusal.Refusal.{Refusal}
 use Rattle.poet_cli.specs.declared.refusal.Refusal.TheVariants.{Usage, Read, Sheet, Text, Limit, Points, Jobs, Segments, Memory}
-use Rattle.poet_cli.specs.declared.judged.Judged.{Judged}
-use Rattle.poet_cli.specs.declared.judged.Judged.TheVariants as judged
-use Rattle.poet_cli.specs.declared.printed.Printed.{Printed}
 use Rattle.poet_cli.specs.declared.printed.Printed.TheVariants as printed
 use Rattle.poet_cli.specs.Refusals.{limit_of}
-use Rattle.poet_cli.specs.Endings.{Ending, printed_output}
-use Rattle.poet_cli.specs.Printing.{output_of, no_bound_text}
+use Rattle.poet_cli.specs.Endings.{Ending}
+use Rattle.poet_cli.specs.Printing.{accepted_text, refused_text, no_bound_text}
 use Rattle.poet_cli.specs.Steps.{next}
 
 -- the bytes of a file, within the limit of its kind
@@ -48,18 +46,15 @@ sheet_in name files = next (file_in source.Sheet name files) (λ bytes. sheet_re
 abbrev pub sheet_verdict : SheetParts → Bool → List ℕ → Verdict
 sheet_verdict sheet deadlines bytes = verdict_of (meaning_of sheet.policy) per_task_meaning (sbf_of sheet.supply) sheet deadlines bytes
 
-abbrev pub judged_by : Verdict → Result Judged Refusal
-judged_by (verdict.Accepted bounds) = Ok (judged.Accepted bounds)
-judged_by (verdict.Text line) = Err (Text source.Certificate line)
-judged_by (verdict.Refused failed) = Ok (judged.Refused failed)
-
--- the judgement of the certificate of a file
-abbrev pub judged_in : SheetParts → Bool → List ℕ → Files → Result Judged Refusal
-judged_in sheet deadlines name files = next (file_in source.Certificate name files) (λ bytes. judged_by (sheet_verdict sheet deadlines bytes))
+-- what is printed of a verdict
+abbrev pub judged_by : SheetParts → Verdict → Ending
+judged_by sheet (verdict.Accepted bounds) = Ok (printed.Done (accepted_text sheet bounds))
+judged_by sheet (verdict.Text line) = Err (Text source.Certificate line)
+judged_by sheet (verdict.Refused failed) = Ok (printed.JudgedNo (refused_text sheet failed))
 
 -- the answer from the opening of the certificate on
 abbrev pub rest_of : SheetParts → Bool → List ℕ → Files → Ending
-rest_of sheet deadlines name files = next (judged_in sheet deadlines name files) (λ judged. Ok (output_of sheet judged))
+rest_of sheet deadlines name files = next (file_in source.Certificate name files) (λ bytes. judged_by sheet (sheet_verdict sheet deadlines bytes))
 
 abbrev pub check_answer : List ℕ → List ℕ → Bool → Files → Ending
 check_answer sheet certificate deadlines files = next (sheet_in sheet files) (λ parts. rest_of parts deadlines certificate files)
@@ -69,30 +64,14 @@ abbrev pub best_for : SheetParts → ℕ → Result Cert AnalyseRefusal
 best_for sheet horizon = best_of (meaning_of sheet.policy) per_task_meaning (sbf_of sheet.supply) sheet horizon
 
 -- what is printed of an analysis: the certificate's text, or which task has no bound
-abbrev pub analysed_by : SheetParts → Result Cert AnalyseRefusal → Result Printed Refusal
+abbrev pub analysed_by : SheetParts → Result Cert AnalyseRefusal → Ending
 analysed_by sheet (Ok cert) = Ok (printed.Done (text_of cert))
 analysed_by sheet (Err (solver.NoBound i)) = Ok (printed.JudgedNo (no_bound_text (task_at sheet i).name))
 analysed_by sheet (Err (solver.Points i)) = Err (Points (task_at sheet i).name)
 analysed_by sheet (Err solver.Memory) = Err Memory
 
--- why the analysis of a sheet was refused
-abbrev pub IsAnalysisRefusal : SheetParts → ℕ → Refusal → Type 0
-IsAnalysisRefusal sheet horizon Usage = ⊥
-IsAnalysisRefusal sheet horizon (Read which) = ⊥
-IsAnalysisRefusal sheet horizon (Sheet refusal) = ⊥
-IsAnalysisRefusal sheet horizon (Text which line) = ⊥
-IsAnalysisRefusal sheet horizon (Limit which) = ⊥
-IsAnalysisRefusal sheet horizon (Points name) = analysed_by sheet (best_for sheet horizon) ≡ Err (Points name)
-IsAnalysisRefusal sheet horizon Jobs = ⊥
-IsAnalysisRefusal sheet horizon Segments = ⊥
-IsAnalysisRefusal sheet horizon Memory = Unit {0}
-
--- the analysis of the sheet of a file
-abbrev pub analysis_in : List ℕ → ℕ → Files → Result Printed Refusal
-analysis_in sheet horizon files = next (sheet_in sheet files) (λ parts. analysed_by parts (best_for parts horizon))
-
 abbrev pub analyse_answer : List ℕ → ℕ → Files → Ending
-analyse_answer sheet horizon files = next (analysis_in sheet horizon files) (λ print. Ok (printed_output print))
+analyse_answer sheet horizon files = next (sheet_in sheet files) (λ parts. analysed_by parts (best_for parts horizon))
 
 -- which refusals may come whatever the shelf tells, of a command that reads a sheet and then another file
 abbrev pub MayFailAfterSheet : Source → List ℕ → Option Files → Refusal → Type 0

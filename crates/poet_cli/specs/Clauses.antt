@@ -1,3 +1,4 @@
+-- What the top call says of its status, of what it wrote and of its shelf.
 use Rattle.std.specs.Prelude.{◌≡◌, ◌≢◌, ◌≤◌, ◌⊎◌, ℕ, Bool, false, List, Option, Result, Ok, Err, IsOk}
 use Rattle.poet_io.specs.Faults.{Rose}
 use Rattle.poet_io.specs.Shelves.{Files, IfTold, IsTold}
@@ -6,7 +7,8 @@ use Rattle.poet_cli.specs.declared.refusal.Source.{Source}
 use Rattle.poet_cli.specs.declared.refusal.Refusal.{Refusal}
 use Rattle.poet_cli.specs.declared.refusal.Refusal.TheVariants.{Usage, Read, Memory}
 use Rattle.poet_cli.specs.Refusals.{refusal_status, line_of, write_failed}
-use Rattle.poet_cli.specs.Endings.{Output, Ending, output_status, output_text, ending_status, out_text, err_text}
+use Rattle.poet_cli.specs.declared.printed.Printed.{Printed}
+use Rattle.poet_cli.specs.Endings.{Ending, printed_status, printed_text, ending_status, out_text, err_text}
 
 -- the two sinks at a moment
 pub record Outlets : Type 0 where
@@ -22,16 +24,16 @@ pub record Scene : Type 0 where
   pub sinks : Outlets
 
 -- the text was written
-pub record ToldText (output : Output) (before after : Outlets) (status : ℕ) : Type 0 where
-  pub status_is : status ≡ output_status output
-  pub text_is : Appended before.out after.out (output_text output)
+pub record ToldText (print : Printed) (before after : Outlets) (status : ℕ) : Type 0 where
+  pub status_is : status ≡ printed_status print
+  pub text_is : Appended before.out after.out (printed_text print)
   pub silent : Stayed before.err after.err
 
 -- the text could not be written
-pub record ToldFault (output : Output) (before after : Outlets) (status : ℕ) : Type 0 where
+pub record ToldFault (print : Printed) (before after : Outlets) (status : ℕ) : Type 0 where
   pub status_is : status ≡ 4
   pub cause : Rose before.out_faults after.out_faults
-  pub part : AppendedPart before.out after.out (output_text output)
+  pub part : AppendedPart before.out after.out (printed_text print)
   pub line : WroteLine before.err after.err before.err_faults after.err_faults write_failed
 
 -- the line of a refusal was written
@@ -47,7 +49,7 @@ Finished (Err fault) status before after faults_before faults_now answer = (answ
 
 -- how an ending was told
 abbrev pub Told : Ending → Outlets → Outlets → ℕ → Type 0
-Told (Ok output) before after status = ToldText output before after status ⊎ ToldFault output before after status
+Told (Ok print) before after status = ToldText print before after status ⊎ ToldFault print before after status
 Told (Err refusal) before after status = ToldLine refusal before after status
 
 -- the line for a file that could not be read

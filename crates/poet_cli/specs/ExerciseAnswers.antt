@@ -5,9 +5,9 @@ use Rattle.exercise.specs.declared.outcome.Exercise.{Exercise}
 use Rattle.exercise.specs.Exercises.{exercise_of}
 use Rattle.poet_cli.specs.declared.refusal.Refusal.{Refusal}
 use Rattle.poet_cli.specs.declared.refusal.Refusal.TheVariants.{Memory}
-use Rattle.poet_cli.specs.declared.printed.Printed.TheVariants as printed
-use Rattle.poet_cli.specs.Endings.{Ending, printed_output}
-use Rattle.poet_cli.specs.RunPrinting.{counted}
+use Rattle.poet_cli.specs.declared.printed.Printed.TheVariants.{Done}
+use Rattle.poet_cli.specs.Endings.{Ending}
+use Rattle.poet_cli.specs.Printing.{counted}
 
 -- exercise seed S tasks N points P greatest R jobs J done M worst W
 unfoldable pub exercise_line : ℕ → ℕ → Exercise → List ℕ
@@ -16,7 +16,7 @@ exercise_line seed tasks e =
     ++ (counted (codes " jobs ") e.jobs ++ (counted (codes " done ") e.done ++ (counted (codes " worst ") e.worst ++ codes "\n"))))))
 
 abbrev pub exercise_answer : ℕ → ℕ → Files → Ending
-exercise_answer seed tasks files = Ok (printed_output (printed.Done (exercise_line seed tasks (exercise_of seed tasks))))
+exercise_answer seed tasks files = Ok (Done (exercise_line seed tasks (exercise_of seed tasks)))
 
 -- an exercise is refused for want of memory alone
 abbrev pub IsExerciseRefusal : Refusal → Type 0

@@ -1,5 +1,6 @@
+-- What status 0 says of the files.
 use Rattle.std.specs.Prelude.{◌≡◌, ℕ, Bool, false, List, length, Option, Some, None, Ok}
-use Rattle.poet_io.specs.Shelves.{Files, IfTold}
+use Rattle.poet_io.specs.Shelves.{Files}
 use Rattle.task_sheet.specs.SheetParts.{SheetParts}
 use Rattle.sheet_text.specs.SheetRows.{sheet_of_text}
 use Rattle.certificate.specs.declared.cert.Cert.{Cert}
@@ -16,16 +17,9 @@ use Rattle.simulated_run.specs.declared.mode.Mode.TheVariants.{Dense}
 use Rattle.simulated_run.specs.SimulatedRun.{simulated_run}
 use Rattle.simulated_run.specs.Laws.{IsDense}
 use Rattle.exercise.specs.Exercises.{ExerciseHolds}
-use Rattle.cert_check.specs.Verdicts.{bounds_of, AreInTime, AreSound}
-use Rattle.poet_cli.specs.declared.judged.Judged.{Judged}
-use Rattle.poet_cli.specs.declared.judged.Judged.TheVariants.{Accepted, Refused}
-use Rattle.poet_cli.specs.declared.printed.Printed.{Printed}
-use Rattle.poet_cli.specs.declared.printed.Printed.TheVariants as printed
-use Rattle.poet_cli.specs.declared.reported.Reported.{Reported}
-use Rattle.poet_cli.specs.declared.reported.Reported.TheVariants as reported
+use Rattle.cert_check.specs.Verdicts.{bounds_of, AreInTime}
 use Rattle.poet_cli.specs.RunAnswers.{world_for}
 use Rattle.poet_cli.specs.Analyses.{AnalysisHolds}
-use Rattle.poet_cli.specs.Objections.{Fails, CertificateFails, RunBreaks, RunFails}
 use Rattle.poet_cli.specs.Words.{Asked, CheckOf, AnalyseOf, SimulateOf, AuditOf, ReportOf, ExerciseOf}
 
 -- the file's bytes are a certificate, with a bound for each task, and in every run that complies with the
@@ -91,31 +85,3 @@ Headline (Some (SimulateOf sheet mode ticks)) files = SimulationHolds sheet mode
 Headline (Some (AuditOf sheet run)) files = AuditHolds sheet run files
 Headline (Some (ReportOf sheet certificate form)) files = HeadlineHolds sheet certificate false files
 Headline (Some (ExerciseOf seed tasks)) files = ExerciseHolds seed tasks
-
--- accepted bounds are one for each task, and hold; a refused certificate fails to meet a condition
-abbrev pub IsSoundJudgement : SheetParts → Bool → List ℕ → Option Files → Judged → Type 0
-IsSoundJudgement sheet deadlines name told (Accepted bounds) = (length bounds ≡ length sheet.tasks) × IfTold told (BoundsHold sheet deadlines name)
-IsSoundJudgement sheet deadlines name told (Refused failed) = IfTold told (CertificateFails sheet deadlines name)
-
--- there are as many bounds as lines to print
-abbrev pub IsPrintable : SheetParts → Judged → Type 0
-IsPrintable sheet (Accepted bounds) = length bounds ≡ length sheet.tasks
-IsPrintable sheet (Refused failed) = Unit {0}
-
--- a run that is printed as compliant complies, and one that is printed as broken does not
-abbrev pub IsSoundAudit : SheetParts → Run → Printed → Type 0
-IsSoundAudit sheet run (printed.Done text) = RunComplies sheet run
-IsSoundAudit sheet run (printed.JudgedNo text) = RunBreaks sheet run
-
-abbrev pub IsSoundAuditOf : SheetParts → List ℕ → Option Files → Printed → Type 0
-IsSoundAuditOf sheet name told (printed.Done text) = IfTold told (RunHolds sheet name)
-IsSoundAuditOf sheet name told (printed.JudgedNo text) = IfTold told (RunFails sheet name)
-
--- bounds that are reported hold; where there is no report, the certificate fails to meet a condition
-abbrev pub IsSoundReport : SheetParts → Cert → Reported → Type 0
-IsSoundReport sheet cert (reported.Report text) = AreSound (meaning_of sheet.policy) per_task_meaning (sbf_of sheet.supply) sheet false (bounds_of cert)
-IsSoundReport sheet cert (reported.Refused failed) = Fails sheet false cert
-
-abbrev pub IsSoundReportOf : SheetParts → List ℕ → Option Files → Reported → Type 0
-IsSoundReportOf sheet name told (reported.Report text) = IfTold told (BoundsHold sheet false name)
-IsSoundReportOf sheet name told (reported.Refused failed) = IfTold told (CertificateFails sheet false name)

@@ -1,3 +1,4 @@
+-- What is printed of a certificate.
 use Rattle.std.specs.Prelude.{ℕ, List, [], ◌∷◌, ◌++◌, Option, Some, None, codes, decimal, nat_le, if◌then◌else◌}
 use Rattle.task_sheet.specs.declared.tasks.Task.{Task}
 use Rattle.task_sheet.specs.SheetParts.{SheetParts}
@@ -5,23 +6,24 @@ use Rattle.task_sheet.specs.Sheets.{task_at}
 use Rattle.conditions.specs.declared.failed.Cond.{Cond}
 use Rattle.conditions.specs.declared.failed.Cond.TheVariants.{K1, K3, K4, K5, K6, K7, K8, K9}
 use Rattle.conditions.specs.declared.failed.Failed.{Failed}
-use Rattle.poet_cli.specs.declared.judged.Judged.{Judged}
-use Rattle.poet_cli.specs.declared.judged.Judged.TheVariants.{Accepted, Refused}
-use Rattle.poet_cli.specs.Endings.{Output, Done, JudgedNo}
 
 -- whether a deadline is met
 abbrev pub met_word : ℕ → ℕ → List ℕ
 met_word bound deadline = if nat_le bound deadline then codes " met\n" else codes " missed\n"
 
-abbrev pub bound_front : Task → ℕ → List ℕ
-bound_front task bound = codes "task " ++ (task.name ++ (codes " bound " ++ decimal bound))
+-- a word and a number
+abbrev pub counted : List ℕ → ℕ → List ℕ
+counted word n = word ++ decimal n
 
-abbrev pub bound_back : Task → ℕ → List ℕ
-bound_back task bound = codes " deadline " ++ (decimal task.deadline ++ met_word bound task.deadline)
+-- a word and a number, where there is one
+abbrev pub named : List ℕ → Option ℕ → List ℕ
+named word None = []
+named word (Some n) = counted word n
 
 -- task NAME bound R deadline D met
 unfoldable pub bound_line : Task → ℕ → List ℕ
-bound_line task bound = bound_front task bound ++ bound_back task bound
+bound_line task bound =
+    codes "task " ++ (task.name ++ (counted (codes " bound ") bound ++ (counted (codes " deadline ") task.deadline ++ met_word bound task.deadline)))
 
 -- a line for each task and its bound
 abbrev pub bounds_text : List Task → List ℕ → List ℕ
@@ -46,18 +48,9 @@ abbrev pub task_text : SheetParts → Option ℕ → List ℕ
 task_text sheet None = []
 task_text sheet (Some i) = codes " task " ++ (task_at sheet i).name
 
-abbrev pub point_text : Option ℕ → List ℕ
-point_text None = []
-point_text (Some a) = codes " point " ++ decimal a
-
 -- refused K6 task NAME point A
 unfoldable pub refused_text : SheetParts → Failed → List ℕ
-refused_text sheet failed = cond_text failed.cond ++ (task_text sheet failed.task ++ (point_text failed.point ++ codes "\n"))
-
--- what is printed of a judgement
-abbrev pub output_of : SheetParts → Judged → Output
-output_of sheet (Accepted bounds) = Done (accepted_text sheet bounds)
-output_of sheet (Refused failed) = JudgedNo (refused_text sheet failed)
+refused_text sheet failed = cond_text failed.cond ++ (task_text sheet failed.task ++ (named (codes " point ") failed.point ++ codes "\n"))
 
 -- no bound task NAME window
 abbrev pub no_bound_text : List ℕ → List ℕ

@@ -18,9 +18,9 @@ use Rattle.poet_cli.specs.declared.grammar.Form.TheVariants as forms
 use Rattle.poet_cli.specs.declared.refusal.Source.TheVariants as source
 use Rattle.poet_cli.specs.declared.refusal.Refusal.{Refusal}
 use Rattle.poet_cli.specs.declared.refusal.Refusal.TheVariants.{Text, Memory}
-use Rattle.poet_cli.specs.declared.reported.Reported.{Reported}
-use Rattle.poet_cli.specs.declared.reported.Reported.TheVariants as reported
-use Rattle.poet_cli.specs.Endings.{Output, Done, JudgedNo, Ending}
+use Rattle.poet_cli.specs.declared.printed.Printed.{Printed}
+use Rattle.poet_cli.specs.declared.printed.Printed.TheVariants.{Done, JudgedNo}
+use Rattle.poet_cli.specs.Endings.{Ending}
 use Rattle.poet_cli.specs.Printing.{refused_text}
 use Rattle.poet_cli.specs.Steps.{next}
 use Rattle.poet_cli.specs.Answers.{file_in, sheet_in}
@@ -44,21 +44,13 @@ abbrev pub failed_for : SheetParts → Cert → Option Failed
 failed_for sheet cert = failed_of (meaning_of sheet.policy) per_task_meaning (sbf_of sheet.supply) sheet false cert
 
 -- the report, if no condition fails
-abbrev pub reported_by : Form → SheetParts → Cert → Option Failed → Reported
-reported_by form sheet cert None = reported.Report (report_of form sheet cert)
-reported_by form sheet cert (Some failed) = reported.Refused failed
-
--- the report on the certificate of a file
-abbrev pub report_in : SheetParts → Form → List ℕ → Files → Result Reported Refusal
-report_in sheet form name files = next (cert_in name files) (λ cert. Ok (reported_by form sheet cert (failed_for sheet cert)))
-
-abbrev pub reported_output : SheetParts → Reported → Output
-reported_output sheet (reported.Report text) = Done text
-reported_output sheet (reported.Refused failed) = JudgedNo (refused_text sheet failed)
+abbrev pub reported_by : Form → SheetParts → Cert → Option Failed → Printed
+reported_by form sheet cert None = Done (report_of form sheet cert)
+reported_by form sheet cert (Some failed) = JudgedNo (refused_text sheet failed)
 
 -- the answer from the opening of the certificate on
 abbrev pub report_rest : SheetParts → Form → List ℕ → Files → Ending
-report_rest sheet form name files = next (report_in sheet form name files) (λ one. Ok (reported_output sheet one))
+report_rest sheet form name files = next (cert_in name files) (λ cert. Ok (reported_by form sheet cert (failed_for sheet cert)))
 
 abbrev pub report_answer : List ℕ → List ℕ → Form → Files → Ending
 report_answer sheet certificate form files = next (sheet_in sheet files) (λ parts. report_rest parts form certificate files)

@@ -20,9 +20,8 @@ use Rattle.audit.specs.Verdicts.{verdict_of}
 use Rattle.poet_cli.specs.declared.refusal.Source.TheVariants as source
 use Rattle.poet_cli.specs.declared.refusal.Refusal.{Refusal}
 use Rattle.poet_cli.specs.declared.refusal.Refusal.TheVariants.{Usage, Read, Sheet, Text, Limit, Points, Jobs, Segments, Memory}
-use Rattle.poet_cli.specs.declared.printed.Printed.{Printed}
 use Rattle.poet_cli.specs.declared.printed.Printed.TheVariants as printed
-use Rattle.poet_cli.specs.Endings.{Ending, printed_output}
+use Rattle.poet_cli.specs.Endings.{Ending}
 use Rattle.poet_cli.specs.RunPrinting.{audit_print}
 use Rattle.poet_cli.specs.Steps.{next}
 use Rattle.poet_cli.specs.Answers.{file_in, sheet_in}
@@ -31,30 +30,14 @@ use Rattle.poet_cli.specs.Answers.{file_in, sheet_in}
 abbrev pub world_for : SheetParts → Mode → World
 world_for sheet mode = world_of (meaning_of sheet.policy) per_task_meaning (sbf_of sheet.supply) sheet mode
 
-abbrev pub simulated_by : Result Run SimRefusal → Result Printed Refusal
+abbrev pub simulated_by : Result Run SimRefusal → Ending
 simulated_by (Ok run) = Ok (printed.Done (text_of run))
 simulated_by (Err simulator.Jobs) = Err Jobs
 simulated_by (Err simulator.Segments) = Err Segments
 simulated_by (Err simulator.Memory) = Err Memory
 
--- why the simulation of a sheet was refused
-abbrev pub IsSimulationRefusal : SheetParts → Mode → ℕ → Refusal → Type 0
-IsSimulationRefusal sheet mode ticks Usage = ⊥
-IsSimulationRefusal sheet mode ticks (Read which) = ⊥
-IsSimulationRefusal sheet mode ticks (Sheet refusal) = ⊥
-IsSimulationRefusal sheet mode ticks (Text which line) = ⊥
-IsSimulationRefusal sheet mode ticks (Limit which) = ⊥
-IsSimulationRefusal sheet mode ticks (Points name) = ⊥
-IsSimulationRefusal sheet mode ticks Jobs = simulated_by (simulation_of (world_for sheet mode) ticks) ≡ Err Jobs
-IsSimulationRefusal sheet mode ticks Segments = simulated_by (simulation_of (world_for sheet mode) ticks) ≡ Err Segments
-IsSimulationRefusal sheet mode ticks Memory = Unit {0}
-
--- the text of the simulated run of the sheet of a file
-abbrev pub simulation_in : List ℕ → Mode → ℕ → Files → Result Printed Refusal
-simulation_in sheet mode ticks files = next (sheet_in sheet files) (λ parts. simulated_by (simulation_of (world_for parts mode) ticks))
-
 abbrev pub simulate_answer : List ℕ → Mode → ℕ → Files → Ending
-simulate_answer sheet mode ticks files = next (simulation_in sheet mode ticks files) (λ print. Ok (printed_output print))
+simulate_answer sheet mode ticks files = next (sheet_in sheet files) (λ parts. simulated_by (simulation_of (world_for parts mode) ticks))
 
 abbrev pub run_read : Result Run RunRefusal → Result Run Refusal
 run_read (Ok run) = Ok run
@@ -69,13 +52,9 @@ run_in name files = next (file_in source.Run name files) (λ bytes. run_read (ru
 abbrev pub audit_for : SheetParts → Run → AuditVerdict
 audit_for sheet run = verdict_of (meaning_of sheet.policy) per_task_meaning (sbf_of sheet.supply) sheet run
 
--- what is printed of the run of a file
-abbrev pub audit_in : SheetParts → List ℕ → Files → Result Printed Refusal
-audit_in sheet name files = next (run_in name files) (λ run. Ok (audit_print sheet (audit_for sheet run)))
-
 -- the answer from the opening of the run on
 abbrev pub audit_rest : SheetParts → List ℕ → Files → Ending
-audit_rest sheet name files = next (audit_in sheet name files) (λ print. Ok (printed_output print))
+audit_rest sheet name files = next (run_in name files) (λ run. Ok (audit_print sheet (audit_for sheet run)))
 
 abbrev pub audit_answer : List ℕ → List ℕ → Files → Ending
 audit_answer sheet run files = next (sheet_in sheet files) (λ parts. audit_rest parts run files)

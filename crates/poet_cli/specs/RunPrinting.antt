@@ -1,5 +1,5 @@
 -- What is printed of a verdict on a run.
-use Rattle.std.specs.Prelude.{◌≡◌, ℕ, List, [], ◌∷◌, ◌++◌, length, Option, Some, None, codes, decimal}
+use Rattle.std.specs.Prelude.{◌≡◌, ℕ, List, [], ◌∷◌, ◌++◌, length, Option, Some, None, codes}
 use Rattle.task_sheet.specs.declared.tasks.Task.{Task}
 use Rattle.task_sheet.specs.SheetParts.{SheetParts}
 use Rattle.audit.specs.declared.verdict.Rule.{Rule}
@@ -9,10 +9,7 @@ use Rattle.audit.specs.declared.verdict.AuditVerdict.{AuditVerdict}
 use Rattle.audit.specs.declared.verdict.AuditVerdict.TheVariants.{Compliant, Broken}
 use Rattle.poet_cli.specs.declared.printed.Printed.{Printed}
 use Rattle.poet_cli.specs.declared.printed.Printed.TheVariants.{Done, JudgedNo}
-
--- a word and a number
-abbrev pub counted : List ℕ → ℕ → List ℕ
-counted word n = word ++ decimal n
+use Rattle.poet_cli.specs.Printing.{counted, named}
 
 -- task NAME jobs J done M worst W
 unfoldable pub seen_line : Task → Seen → List ℕ
@@ -36,11 +33,6 @@ rule_word Supply = codes "supply"
 rule_word Idle = codes "idle"
 rule_word Segment = codes "segment"
 rule_word Priority = codes "priority"
-
--- a word and a number, where there is one
-abbrev pub named : List ℕ → Option ℕ → List ℕ
-named word None = []
-named word (Some n) = counted word n
 
 -- broken RULE job K tick T, without what the rule does not name
 unfoldable pub broken_text : Rule → Option ℕ → Option ℕ → List ℕ

@@ -1,3 +1,4 @@
+-- What the steps of a command give, and why they are refused.
 use Rattle.std.specs.Prelude.{◌≡◌, ◌⊎◌, ℕ, Bool, false, Option, Result, Ok, Err}
 use Rattle.poet_io.specs.Faults.{Rose}
 use Rattle.poet_io.specs.Shelves.{Files, IfTold, IsTold}
@@ -26,6 +27,14 @@ Denied answer told before now Memory = Unit {0}
 abbrev pub Got : {A : Type 0} → (Files → Result A Refusal) → (Refusal → Type 0) → Option Files → ℕ → ℕ → Result A Refusal → Type 0
 Got answer may told before now (Ok a) = IfTold told (λ files. answer files ≡ Ok a)
 Got answer may told before now (Err e) = may e × Denied answer told before now e
+
+-- what a step that reads no file gives, where its answer is this: the answer, or want of memory
+abbrev pub Gives : {A : Type 0} → Result A Refusal → Result A Refusal → Type 0
+Gives answer (Ok a) = answer ≡ Ok a
+Gives answer (Err Usage) = ⊥
+Gives answer (Err (Read which)) = ⊥
+Gives answer (Err Memory) = Unit {0}
+Gives answer (Err refusal) = answer ≡ Err refusal
 
 -- after a file that could not be read nothing is open
 abbrev pub IsShut : Bool → Refusal → Type 0

@@ -1,4 +1,4 @@
-//! The analysis of a sheet, up to its printing.
+//! How `analyse` ends.
 ghost use Rattle.std.specs.Prelude.{◌≡◌, ◌≤◌, true, Ok, IfOk, IfErr};
 ghost use Rattle.poet_io.specs.Shelves.{IfTold};
 ghost use Rattle.policy.specs.PolicyMeaning.{PolicyMeaning};
@@ -7,13 +7,13 @@ ghost use Rattle.preemption.specs.Kinds.{per_task_meaning};
 ghost use Rattle.supply.specs.Promises.{sbf_of};
 ghost use Rattle.task_sheet.specs.Sheets.{task_at};
 ghost use Rattle.solver.specs.Outcome.{IsBestAnswer};
-ghost use Rattle.poet_cli.specs.Printing.{no_bound_text};
-ghost use Rattle.poet_cli.specs.Steps.{Got, IsAt, IsShut};
-ghost use Rattle.poet_cli.specs.Answers.{best_for, analysed_by, analysis_in, IsAnalysisRefusal};
-ghost use Rattle.poet_cli.specs.Analyses.{IsBestBy, IsNoneBy, IsSoundAnalysis, IsSoundAnalysisOf};
+ghost use Rattle.poet_cli.specs.Endings.{IsSound};
+ghost use Rattle.poet_cli.specs.Steps.{Gives, Got, IsAt, IsShut};
+ghost use Rattle.poet_cli.specs.Answers.{best_for, analysed_by, analyse_answer};
+ghost use Rattle.poet_cli.specs.Analyses.{IsBestBy, IsNoneBy, BestHolds, NoneHolds, AnalysisHolds, NothingMeets};
 
 use crate::printed::Printed;
-use crate::printing::name_at;
+use crate::printing::{name_at, no_bound};
 use crate::reading::sheet_at;
 use crate::refusal::{Refusal, Source};
 use cert_check::accepted_is_sound;
@@ -62,22 +62,11 @@ fn name_of(alloc: Global, sheet: &Sheet, task: u32) -> Result<Text, AllocError>
     Ok(Text::new(String::from_str(alloc, name_at(sheet, task))?))
 }
 
-/// That a task has no bound.
-fn no_bound(alloc: Global, sheet: &Sheet, task: u32) -> Result<Items<u8>, AllocError>
-    ensures { IfOk result (λ text. text ≡ no_bound_text (task_at sheet.now task).name) }
-{
-    let mut text = Vec::from_slice(alloc, "no bound task ".as_bytes())?;
-    text.extend_from_slice(name_at(sheet, task).as_bytes())?;
-    text.extend_from_slice(" window\n".as_bytes())?;
-    Ok(Items::new(text))
-}
-
 /// What the analysis of a sheet comes to.
 fn analysis(alloc: Global, sheet: &Sheet, horizon: u64) -> Result<Printed, Refusal>
     requires { horizon ≤ 1000000000 }
-    ensures done { IfOk result (λ print. analysed_by sheet.now (best_for sheet.now horizon) ≡ Ok print) }
-    ensures refused { IfErr result (IsAnalysisRefusal sheet.now horizon) }
-    ensures sound { IfOk result (IsSoundAnalysis sheet.now horizon) }
+    ensures exact { Gives (analysed_by sheet.now (best_for sheet.now horizon)) result }
+    ensures sound { IfOk result (IsSound (BestHolds sheet.now horizon) (NoneHolds sheet.now horizon)) }
 {
     match best(alloc, sheet, horizon) {
         Ok(cert) => match write_cert(alloc, &cert) {
@@ -96,20 +85,22 @@ fn analysis(alloc: Global, sheet: &Sheet, horizon: u64) -> Result<Printed, Refus
     }
 }
 
-/// Analyses the sheet of a file.
-pub fn analysis_at<H: Shelf>(
+/// How `analyse` ends.
+pub fn analyse_ending<H: Shelf>(
     alloc: Global,
-    shelf: &mut H,
-    name: &str,
+    sheet: &str,
     horizon: u64,
+    shelf: &mut H,
 ) -> Result<Printed, Refusal>
     requires { horizon ≤ 1000000000 }
     ensures files { H.files shelf.new ≡ H.files shelf.old }
     ensures later { H.faults shelf.old ≤ H.faults shelf.new }
     ensures closed { IfErr result (IsShut (H.is_open shelf.new)) }
-    ensures got { Got (analysis_in name.now horizon) (IsAt Source.Sheet) (H.files shelf.old) (H.faults shelf.old) (H.faults shelf.new) result }
-    ensures sound { IfOk result (IsSoundAnalysisOf name.now horizon (H.files shelf.old)) }
+    ensures got { Got (analyse_answer sheet.now horizon) (IsAt Source.Sheet)
+        (H.files shelf.old) (H.faults shelf.old) (H.faults shelf.new) result }
+    ensures sound { IfOk result (IsSound (IfTold (H.files shelf.old) (AnalysisHolds sheet.now horizon))
+        (IfTold (H.files shelf.old) (NothingMeets sheet.now horizon))) }
 {
-    let sheet = sheet_at(alloc, shelf, name)?;
+    let sheet = sheet_at(alloc, shelf, sheet)?;
     analysis(alloc, &sheet, horizon)
 }

@@ -1,4 +1,4 @@
-//! The verdict on a run, up to its printing.
+//! How `audit` ends.
 ghost use Rattle.std.specs.Prelude.{◌≡◌, ◌≤◌, Ok, IfOk, IfErr};
 ghost use Rattle.poet_io.specs.Shelves.{IfTold};
 ghost use Rattle.policy.specs.Policies.{meaning_of};
@@ -7,12 +7,15 @@ ghost use Rattle.supply.specs.Promises.{sbf_of};
 ghost use Rattle.run_text.specs.Text.{IsWithinLimits};
 ghost use Rattle.audit.specs.Verdicts.{TellsCompliance};
 ghost use Rattle.poet_cli.specs.Steps.{Got, IsAt, IsShut};
+ghost use Rattle.poet_cli.specs.Endings.{IsSound};
 ghost use Rattle.poet_cli.specs.RunPrinting.{audit_print, IsPrintableVerdict};
-ghost use Rattle.poet_cli.specs.RunAnswers.{audit_for, audit_in};
-ghost use Rattle.poet_cli.specs.Headline.{IsSoundAudit, IsSoundAuditOf};
+ghost use Rattle.poet_cli.specs.Answers.{MayFailAfterSheet};
+ghost use Rattle.poet_cli.specs.RunAnswers.{audit_for, audit_rest, audit_answer};
+ghost use Rattle.poet_cli.specs.Headline.{RunComplies, RunHolds, AuditHolds};
+ghost use Rattle.poet_cli.specs.Objections.{RunBreaks, RunFails, AuditFails};
 
 use crate::printed::Printed;
-use crate::reading::read_file;
+use crate::reading::{read_file, sheet_at};
 use crate::refusal::{Refusal, Source};
 use crate::run_printing::print_of;
 use audit::{AuditVerdict, audit};
@@ -41,24 +44,26 @@ pub fn verdict_on(alloc: Global, sheet: &Sheet, run: &Run) -> Result<AuditVerdic
 fn audited(alloc: Global, sheet: &Sheet, run: &Run) -> Result<Printed, AllocError>
     requires { IsWithinLimits run.now }
     ensures exact { IfOk result (λ print. print ≡ audit_print sheet.now (audit_for sheet.now run.now)) }
-    ensures sound { IfOk result (IsSoundAudit sheet.now run.now) }
+    ensures sound { IfOk result (IsSound (RunComplies sheet.now run.now) (RunBreaks sheet.now run.now)) }
 {
     let verdict = verdict_on(alloc, sheet, run)?;
     print_of(alloc, sheet, &verdict)
 }
 
-/// Judges the run of a file.
-pub fn audit_at<H: Shelf>(
+/// How `audit` ends from the opening of the run on.
+fn run_ending<H: Shelf>(
     alloc: Global,
-    shelf: &mut H,
     sheet: &Sheet,
     name: &str,
+    shelf: &mut H,
 ) -> Result<Printed, Refusal>
     ensures files { H.files shelf.new ≡ H.files shelf.old }
     ensures later { H.faults shelf.old ≤ H.faults shelf.new }
     ensures closed { IfErr result (IsShut (H.is_open shelf.new)) }
-    ensures got { Got (audit_in sheet.now name.now) (IsAt Source.Run) (H.files shelf.old) (H.faults shelf.old) (H.faults shelf.new) result }
-    ensures sound { IfOk result (IsSoundAuditOf sheet.now name.now (H.files shelf.old)) }
+    ensures got { Got (audit_rest sheet.now name.now) (IsAt Source.Run)
+        (H.files shelf.old) (H.faults shelf.old) (H.faults shelf.new) result }
+    ensures sound { IfOk result (IsSound (IfTold (H.files shelf.old) (RunHolds sheet.now name.now))
+        (IfTold (H.files shelf.old) (RunFails sheet.now name.now))) }
 {
     let bytes = read_file(alloc, shelf, name, Source::Run)?;
     let run = match read_run(alloc, &bytes) {
@@ -75,4 +80,23 @@ pub fn audit_at<H: Shelf>(
         Ok(print) => Ok(print),
         Err(_) => Err(Refusal::Memory),
     }
+}
+
+/// How `audit` ends.
+pub fn audit_ending<H: Shelf>(
+    alloc: Global,
+    sheet: &str,
+    run: &str,
+    shelf: &mut H,
+) -> Result<Printed, Refusal>
+    ensures files { H.files shelf.new ≡ H.files shelf.old }
+    ensures later { H.faults shelf.old ≤ H.faults shelf.new }
+    ensures closed { IfErr result (IsShut (H.is_open shelf.new)) }
+    ensures got { Got (audit_answer sheet.now run.now) (MayFailAfterSheet Source.Run sheet.now (H.files shelf.old))
+        (H.files shelf.old) (H.faults shelf.old) (H.faults shelf.new) result }
+    ensures sound { IfOk result (IsSound (IfTold (H.files shelf.old) (AuditHolds sheet.now run.now))
+        (IfTold (H.files shelf.old) (AuditFails sheet.now run.now))) }
+{
+    let sheet = sheet_at(alloc, shelf, sheet)?;
+    run_ending(alloc, &sheet, run, shelf)
 }

@@ -1,12 +1,13 @@
-//! An exercise, up to its printing.
+//! How `exercise` ends.
 ghost use Rattle.std.specs.Prelude.{◌≡◌, ◌≤◌, IfOk, IfErr};
 ghost use Rattle.exercise.specs.Exercises.{exercise_of, ExerciseHolds};
 ghost use Rattle.poet_cli.specs.declared.printed.Printed.TheVariants as printed;
+ghost use Rattle.poet_cli.specs.Endings.{IsSound};
 ghost use Rattle.poet_cli.specs.ExerciseAnswers.{exercise_line, IsExerciseRefusal};
 
 use crate::printed::Printed;
+use crate::printing::push_counted;
 use crate::refusal::Refusal;
-use crate::run_printing::push_counted;
 use exercise::{Exercise, exercise};
 use lists::Items;
 use std::alloc::{AllocError, Global};
@@ -28,13 +29,13 @@ fn line_of(alloc: Global, seed: u64, tasks: u32, one: &Exercise) -> Result<Items
     Ok(Items::new(text))
 }
 
-/// What is printed of an exercise.
-pub fn exercise_print(alloc: Global, seed: u64, tasks: u32) -> Result<Printed, Refusal>
+/// How `exercise` ends.
+pub fn exercise_ending(alloc: Global, seed: u64, tasks: u32) -> Result<Printed, Refusal>
     requires some { 1 ≤ tasks }
     requires few { tasks ≤ 64 }
     ensures exact { IfOk result (λ print. print ≡ printed.Done (exercise_line seed tasks (exercise_of seed tasks))) }
     ensures refused { IfErr result IsExerciseRefusal }
-    ensures sound { IfOk result (λ print. ExerciseHolds seed tasks) }
+    ensures sound { IfOk result (IsSound (ExerciseHolds seed tasks) ⊥) }
 {
     let one = match exercise(alloc, seed, tasks) {
         Ok(one) => one,

@@ -6,14 +6,14 @@ use poet_io::read_number_in;
 use simulated_run::Mode;
 
 /// The form of a report.
-#[derive(Clone, Copy, Debug, PartialEq, Eq)]
+#[derive(Clone, Copy)]
 pub enum Form {
     Text,
     Json,
 }
 
 /// What the words ask for.
-#[derive(Clone, Copy, Debug)]
+#[derive(Clone, Copy)]
 pub enum Command<'a> {
     /// `check SHEET CERT`, or `check SHEET CERT deadlines`.
     Check {

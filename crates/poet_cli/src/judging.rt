@@ -1,16 +1,19 @@
-//! The judgement of a certificate, up to its printing.
+//! How `check` ends.
 ghost use Rattle.std.specs.Prelude.{◌≡◌, ◌≤◌, Ok, IfOk, IfErr};
 ghost use Rattle.poet_io.specs.Shelves.{IfTold};
 ghost use Rattle.cert_check.specs.Verdicts.{IsVerdict, IsBoundedBy};
 ghost use Rattle.policy.specs.Policies.{meaning_of};
 ghost use Rattle.preemption.specs.Kinds.{per_task_meaning};
 ghost use Rattle.supply.specs.Promises.{sbf_of};
+ghost use Rattle.poet_cli.specs.Endings.{IsSound};
 ghost use Rattle.poet_cli.specs.Steps.{Got, IsAt, IsShut};
-ghost use Rattle.poet_cli.specs.Answers.{sheet_verdict, judged_in};
-ghost use Rattle.poet_cli.specs.Headline.{IsSoundJudgement};
+ghost use Rattle.poet_cli.specs.Answers.{sheet_verdict, rest_of, check_answer, MayFailAfterSheet};
+ghost use Rattle.poet_cli.specs.Headline.{BoundsHold, HeadlineHolds};
+ghost use Rattle.poet_cli.specs.Objections.{CertificateFails, CheckFails};
 
-use crate::judged::Judged;
-use crate::reading::read_file;
+use crate::printed::Printed;
+use crate::printing::{accepted, refused};
+use crate::reading::{read_file, sheet_at};
 use crate::refusal::{Refusal, Source};
 use cert_check::{Verdict, check_cert};
 use poet_io::Shelf;
@@ -40,28 +43,58 @@ fn verdict(
     }
 }
 
-/// Judges the certificate of a file.
-pub fn judged_at<H: Shelf>(
+/// How `check` ends from the opening of the certificate on.
+fn certificate_ending<H: Shelf>(
     alloc: Global,
-    shelf: &mut H,
     sheet: &Sheet,
     name: &str,
     deadlines: bool,
-) -> Result<Judged, Refusal>
+    shelf: &mut H,
+) -> Result<Printed, Refusal>
     ensures files { H.files shelf.new ≡ H.files shelf.old }
     ensures later { H.faults shelf.old ≤ H.faults shelf.new }
     ensures closed { IfErr result (IsShut (H.is_open shelf.new)) }
-    ensures got { Got (judged_in sheet.now deadlines name.now) (IsAt Source.Certificate) (H.files shelf.old) (H.faults shelf.old) (H.faults shelf.new) result }
-    ensures sound { IfOk result (IsSoundJudgement sheet.now deadlines name.now (H.files shelf.old)) }
+    ensures got { Got (rest_of sheet.now deadlines name.now) (IsAt Source.Certificate)
+        (H.files shelf.old) (H.faults shelf.old) (H.faults shelf.new) result }
+    ensures sound { IfOk result (IsSound (IfTold (H.files shelf.old) (BoundsHold sheet.now deadlines name.now))
+        (IfTold (H.files shelf.old) (CertificateFails sheet.now deadlines name.now))) }
 {
     let bytes = read_file(alloc, shelf, name, Source::Certificate)?;
     match verdict(alloc, sheet, deadlines, &bytes) {
-        Ok(Verdict::Accepted(bounds)) => Ok(Judged::Accepted(bounds)),
-        Ok(Verdict::Refused(failed)) => Ok(Judged::Refused(failed)),
+        Ok(Verdict::Accepted(bounds)) => match accepted(alloc, sheet, bounds.as_slice()) {
+            Ok(text) => Ok(Printed::Done(text)),
+            Err(_) => Err(Refusal::Memory),
+        },
+        Ok(Verdict::Refused(failed)) => match refused(alloc, sheet, &failed) {
+            Ok(text) => Ok(Printed::JudgedNo(text)),
+            Err(_) => Err(Refusal::Memory),
+        },
         Ok(Verdict::Text { line }) => Err(Refusal::Text {
             source: Source::Certificate,
             line,
         }),
         Err(_) => Err(Refusal::Memory),
     }
+}
+
+/// How `check` ends.
+pub fn check_ending<H: Shelf>(
+    alloc: Global,
+    sheet: &str,
+    certificate: &str,
+    deadlines: bool,
+    shelf: &mut H,
+) -> Result<Printed, Refusal>
+    ensures files { H.files shelf.new ≡ H.files shelf.old }
+    ensures later { H.faults shelf.old ≤ H.faults shelf.new }
+    ensures closed { IfErr result (IsShut (H.is_open shelf.new)) }
+    ensures got { Got (check_answer sheet.now certificate.now deadlines)
+        (MayFailAfterSheet Source.Certificate sheet.now (H.files shelf.old))
+        (H.files shelf.old) (H.faults shelf.old) (H.faults shelf.new) result }
+    ensures sound { IfOk result (IsSound
+        (IfTold (H.files shelf.old) (HeadlineHolds sheet.now certificate.now deadlines))
+        (IfTold (H.files shelf.old) (CheckFails sheet.now certificate.now deadlines))) }
+{
+    let sheet = sheet_at(alloc, shelf, sheet)?;
+    certificate_ending(alloc, &sheet, certificate, deadlines, shelf)
 }

@@ -2,7 +2,7 @@
 use lists::Items;
 
 /// The text that a command prints, made in memory.
-#[derive(Debug, Drop, PartialEq)]
+#[derive(Drop)]
 pub enum Printed {
     /// It did what was asked, with status 0.
     Done(Items<u8>),

@@ -1,75 +1,69 @@
-//! What is printed of a judgement.
-ghost use Rattle.std.specs.Prelude.{◌≡◌, ◌++◌, ◌≤◌, ℕ, [], length, take, decimal, codes};
-ghost use Rattle.poet_io.specs.Sinks.{Wrote};
+//! The texts of a judgement, and what other texts share with them.
+ghost use Rattle.std.specs.Prelude.{◌≡◌, ◌++◌, length, OnOk, IfOk};
 ghost use Rattle.task_sheet.specs.Sheets.{task_at};
-ghost use Rattle.poet_cli.specs.Printing.{bound_front, bound_back, bound_line, bounds_text, accepted_text, cond_text as cond_text_of, task_text, point_text, refused_text};
+ghost use Rattle.poet_cli.specs.Printing.{counted, named, bound_line, bounds_text, accepted_text, cond_text as cond_text_of, task_text, refused_text, no_bound_text};
 
-use crate::telling::{write_four, write_six};
 use conditions::{Cond, Failed};
-use poet_io::{Sink, SinkFault, put_number, write_all};
+use lists::Items;
+use poet_io::push_number;
+use std::alloc::{AllocError, Global};
 use task_sheet::{Sheet, Task};
 
-fn write_front<O: Sink>(task: &Task, bound: u64, out: &mut O) -> Result<(), SinkFault>
-    ensures { Wrote (O.written out.old) (O.written out.new) (O.faults out.old) (O.faults out.new) (bound_front task.now bound) result }
+/// Appends a word and a number.
+pub fn push_counted(out: &mut Vec<u8>, word: &str, n: u64) -> Result<(), AllocError>
+    ensures { OnOk result (out.new.items ≡ out.old.items ++ counted word.now n) }
 {
-    let mut digits = [0; 20];
-    let len = put_number(bound, &mut digits);
-    write_four(
-        out,
-        "task ".as_bytes(),
-        task.name.as_str().as_bytes(),
-        " bound ".as_bytes(),
-        &digits[..len],
-    )
+    out.extend_from_slice(word.as_bytes())?;
+    push_number(out, n)
 }
 
-fn write_back<O: Sink>(task: &Task, bound: u64, out: &mut O) -> Result<(), SinkFault>
-    ensures { Wrote (O.written out.old) (O.written out.new) (O.faults out.old) (O.faults out.new) (bound_back task.now bound) result }
+/// Appends a word and a number, where there is one.
+pub fn push_named(out: &mut Vec<u8>, word: &str, n: Option<u64>) -> Result<(), AllocError>
+    ensures { OnOk result (out.new.items ≡ out.old.items ++ named word.now n) }
 {
-    let mut digits = [0; 20];
-    let len = put_number(task.deadline, &mut digits);
+    match n {
+        Some(n) => push_counted(out, word, n),
+        None => Ok(()),
+    }
+}
+
+/// Appends the line of a task and its bound.
+#[tactic(auto, unfolding(crate::specs::Printing::bound_line))]
+fn push_bound(out: &mut Vec<u8>, task: &Task, bound: u64) -> Result<(), AllocError>
+    ensures { OnOk result (out.new.items ≡ out.old.items ++ bound_line task.now bound) }
+{
+    out.extend_from_slice("task ".as_bytes())?;
+    out.extend_from_slice(task.name.as_str().as_bytes())?;
+    push_counted(out, " bound ", bound)?;
+    push_counted(out, " deadline ", task.deadline)?;
     let met = if bound <= task.deadline {
         " met\n"
     } else {
         " missed\n"
     };
-    write_four(
-        out,
-        " deadline ".as_bytes(),
-        &digits[..len],
-        met.as_bytes(),
-        "".as_bytes(),
-    )
+    out.extend_from_slice(met.as_bytes())
 }
 
-/// The line of a task and its bound.
-#[tactic(auto, unfolding(crate::specs::Printing::bound_line))]
-fn write_bound<O: Sink>(task: &Task, bound: u64, out: &mut O) -> Result<(), SinkFault>
-    ensures { Wrote (O.written out.old) (O.written out.new) (O.faults out.old) (O.faults out.new) (bound_line task.now bound) result }
-{
-    write_front(task, bound, out)?;
-    write_back(task, bound, out)
-}
-
-/// A line for each task.
-fn write_bounds<O: Sink>(sheet: &Sheet, bounds: &[u64], out: &mut O) -> Result<(), SinkFault>
+/// Appends a line for each task.
+fn push_bounds(out: &mut Vec<u8>, sheet: &Sheet, bounds: &[u64]) -> Result<(), AllocError>
     requires { length bounds.now ≡ length sheet.now.tasks }
-    ensures { Wrote (O.written out.old) (O.written out.new) (O.faults out.old) (O.faults out.new) (bounds_text sheet.now.tasks bounds.now) result }
+    ensures { OnOk result (out.new.items ≡ out.old.items ++ bounds_text sheet.now.tasks bounds.now) }
 {
     for i in 0..sheet.len() {
-        write_bound(sheet.task(i), bounds[i as usize], out)?;
+        push_bound(out, sheet.task(i), bounds[i as usize])?;
     }
     Ok(())
 }
 
 /// That a certificate is accepted, and its bounds.
 #[tactic(auto, unfolding(crate::specs::Printing::accepted_text))]
-pub fn write_accepted<O: Sink>(sheet: &Sheet, bounds: &[u64], out: &mut O) -> Result<(), SinkFault>
+pub fn accepted(alloc: Global, sheet: &Sheet, bounds: &[u64]) -> Result<Items<u8>, AllocError>
     requires { length bounds.now ≡ length sheet.now.tasks }
-    ensures { Wrote (O.written out.old) (O.written out.new) (O.faults out.old) (O.faults out.new) (accepted_text sheet.now bounds.now) result }
+    ensures { IfOk result (λ text. text ≡ accepted_text sheet.now bounds.now) }
 {
-    write_all(out, "accepted\n".as_bytes())?;
-    write_bounds(sheet, bounds, out)
+    let mut text = Vec::from_slice(alloc, "accepted\n".as_bytes())?;
+    push_bounds(&mut text, sheet, bounds)?;
+    Ok(Items::new(text))
 }
 
 fn cond_text(cond: Cond) -> &'static str
@@ -99,40 +93,37 @@ pub fn name_at(sheet: &Sheet, i: u32) -> &str
     }
 }
 
-fn task_word(sheet: &Sheet, task: Option<u32>) -> (&'static str, &str)
-    ensures { task_text sheet.now task ≡ result.0.now ++ result.1.now }
+/// Appends a task's name, where there is one.
+fn push_task(out: &mut Vec<u8>, sheet: &Sheet, task: Option<u32>) -> Result<(), AllocError>
+    ensures { OnOk result (out.new.items ≡ out.old.items ++ task_text sheet.now task) }
 {
     match task {
-        Some(i) => (" task ", name_at(sheet, i)),
-        None => ("", ""),
-    }
-}
-
-fn put_point(point: Option<u64>, digits: &mut [u8; 20]) -> (&'static str, usize)
-    ensures text { point_text point ≡ result.0.now ++ take result.1 digits.new }
-    ensures short { result.1 ≤ 20 }
-{
-    match point {
-        Some(a) => (" point ", put_number(a, digits)),
-        None => ("", 0),
+        Some(i) => {
+            out.extend_from_slice(" task ".as_bytes())?;
+            out.extend_from_slice(name_at(sheet, i).as_bytes())
+        }
+        None => Ok(()),
     }
 }
 
 /// Which condition failed, and where.
 #[tactic(auto, unfolding(crate::specs::Printing::refused_text))]
-pub fn write_refused<O: Sink>(sheet: &Sheet, failed: &Failed, out: &mut O) -> Result<(), SinkFault>
-    ensures { Wrote (O.written out.old) (O.written out.new) (O.faults out.old) (O.faults out.new) (refused_text sheet.now failed.now) result }
+pub fn refused(alloc: Global, sheet: &Sheet, failed: &Failed) -> Result<Items<u8>, AllocError>
+    ensures { IfOk result (λ text. text ≡ refused_text sheet.now failed.now) }
 {
-    let mut digits = [0; 20];
-    let (point, len) = put_point(failed.point, &mut digits);
-    let (task, name) = task_word(sheet, failed.task);
-    write_six(
-        out,
-        cond_text(failed.cond).as_bytes(),
-        task.as_bytes(),
-        name.as_bytes(),
-        point.as_bytes(),
-        &digits[..len],
-        "\n".as_bytes(),
-    )
+    let mut text = Vec::from_slice(alloc, cond_text(failed.cond).as_bytes())?;
+    push_task(&mut text, sheet, failed.task)?;
+    push_named(&mut text, " point ", failed.point)?;
+    text.extend_from_slice("\n".as_bytes())?;
+    Ok(Items::new(text))
+}
+
+/// That a task has no bound.
+pub fn no_bound(alloc: Global, sheet: &Sheet, task: u32) -> Result<Items<u8>, AllocError>
+    ensures { IfOk result (λ text. text ≡ no_bound_text (task_at sheet.now task).name) }
+{
+    let mut text = Vec::from_slice(alloc, "no bound task ".as_bytes())?;
+    text.extend_from_slice(name_at(sheet, task).as_bytes())?;
+    text.extend_from_slice(" window\n".as_bytes())?;
+    Ok(Items::new(text))
 }

@@ -6,7 +6,7 @@ use lists::Text;
 use task_sheet::SheetRefusal;
 
 /// Which file.
-#[derive(Clone, Copy, Debug, PartialEq, Eq)]
+#[derive(Clone, Copy)]
 pub enum Source {
     Sheet,
     Certificate,
@@ -37,7 +37,7 @@ impl Source {
 }
 
 /// Why a command was refused. Each has a status and a line of its own.
-#[derive(Debug, Drop, PartialEq)]
+#[derive(Drop)]
 pub enum Refusal {
     /// The words are not in the grammar.
     Usage,

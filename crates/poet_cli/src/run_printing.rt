@@ -1,21 +1,13 @@
 //! The text of a verdict on a run.
 ghost use Rattle.std.specs.Prelude.{◌≡◌, ◌++◌, length, OnOk, IfOk};
-ghost use Rattle.poet_cli.specs.RunPrinting.{counted, seen_line, seen_text, compliant_text, named, rule_word as rule_word_of, broken_text, audit_print, IsPrintableVerdict};
+ghost use Rattle.poet_cli.specs.RunPrinting.{seen_line, seen_text, compliant_text, rule_word as rule_word_of, broken_text, audit_print, IsPrintableVerdict};
 
 use crate::printed::Printed;
+use crate::printing::{push_counted, push_named};
 use audit::{AuditVerdict, Rule, Seen};
 use lists::Items;
-use poet_io::push_number;
 use std::alloc::{AllocError, Global};
 use task_sheet::{Sheet, Task};
-
-/// Appends a word and a number.
-pub fn push_counted(out: &mut Vec<u8>, word: &str, n: u64) -> Result<(), AllocError>
-    ensures { OnOk result (out.new.items ≡ out.old.items ++ counted word.now n) }
-{
-    out.extend_from_slice(word.as_bytes())?;
-    push_number(out, n)
-}
 
 /// Appends the line of a task.
 #[tactic(auto, unfolding(crate::specs::RunPrinting::seen_line))]
@@ -63,16 +55,6 @@ fn rule_word(rule: Rule) -> &'static str
         Rule::Idle => "idle",
         Rule::Segment => "segment",
         Rule::Priority => "priority",
-    }
-}
-
-/// Appends a word and a number, where there is one.
-fn push_named(out: &mut Vec<u8>, word: &str, n: Option<u64>) -> Result<(), AllocError>
-    ensures { OnOk result (out.new.items ≡ out.old.items ++ named word.now n) }
-{
-    match n {
-        Some(n) => push_counted(out, word, n),
-        None => Ok(()),
     }
 }
 

@@ -1,4 +1,4 @@
-//! The simulation of a sheet, up to its printing.
+//! How `simulate` ends.
 ghost use Rattle.std.specs.Prelude.{◌≡◌, ◌≤◌, Ok, IfOk, IfErr};
 ghost use Rattle.poet_io.specs.Shelves.{IfTold};
 ghost use Rattle.policy.specs.Policies.{meaning_of};
@@ -9,8 +9,9 @@ ghost use Rattle.schedule_laws.specs.Compliance.{IsCompliant};
 ghost use Rattle.simulated_run.specs.declared.mode.Mode.TheVariants.{Dense};
 ghost use Rattle.simulated_run.specs.Laws.{IsDense};
 ghost use Rattle.simulator.specs.Simulations.{IsSimulation, simulation_of};
-ghost use Rattle.poet_cli.specs.Steps.{Got, IsAt, IsShut};
-ghost use Rattle.poet_cli.specs.RunAnswers.{world_for, simulated_by, simulation_in, IsSimulationRefusal};
+ghost use Rattle.poet_cli.specs.Endings.{IsSound};
+ghost use Rattle.poet_cli.specs.Steps.{Gives, Got, IsAt, IsShut};
+ghost use Rattle.poet_cli.specs.RunAnswers.{world_for, simulated_by, simulate_answer};
 ghost use Rattle.poet_cli.specs.Headline.{SimulationComplies, SimulationHolds};
 
 use crate::printed::Printed;
@@ -45,9 +46,8 @@ pub fn simulation(alloc: Global, sheet: &Sheet, mode: Mode, ticks: u64) -> Resul
 /// What the simulation of a sheet comes to.
 fn simulated(alloc: Global, sheet: &Sheet, mode: Mode, ticks: u64) -> Result<Printed, Refusal>
     requires { ticks ≤ 100000 }
-    ensures done { IfOk result (λ print. simulated_by (simulation_of (world_for sheet.now mode) ticks) ≡ Ok print) }
-    ensures refused { IfErr result (IsSimulationRefusal sheet.now mode ticks) }
-    ensures sound { IfOk result (λ print. SimulationComplies sheet.now mode ticks) }
+    ensures exact { Gives (simulated_by (simulation_of (world_for sheet.now mode) ticks)) result }
+    ensures sound { IfOk result (IsSound (SimulationComplies sheet.now mode ticks) ⊥) }
 {
     match simulation(alloc, sheet, mode, ticks) {
         Ok(run) => match write_run(alloc, &run) {
@@ -60,21 +60,22 @@ fn simulated(alloc: Global, sheet: &Sheet, mode: Mode, ticks: u64) -> Result<Pri
     }
 }
 
-/// Simulates the sheet of a file.
-pub fn simulation_at<H: Shelf>(
+/// How `simulate` ends.
+pub fn simulate_ending<H: Shelf>(
     alloc: Global,
-    shelf: &mut H,
-    name: &str,
+    sheet: &str,
     mode: Mode,
     ticks: u64,
+    shelf: &mut H,
 ) -> Result<Printed, Refusal>
     requires { ticks ≤ 100000 }
     ensures files { H.files shelf.new ≡ H.files shelf.old }
     ensures later { H.faults shelf.old ≤ H.faults shelf.new }
     ensures closed { IfErr result (IsShut (H.is_open shelf.new)) }
-    ensures got { Got (simulation_in name.now mode ticks) (IsAt Source.Sheet) (H.files shelf.old) (H.faults shelf.old) (H.faults shelf.new) result }
-    ensures sound { IfOk result (λ print. IfTold (H.files shelf.old) (SimulationHolds name.now mode ticks)) }
+    ensures got { Got (simulate_answer sheet.now mode ticks) (IsAt Source.Sheet)
+        (H.files shelf.old) (H.faults shelf.old) (H.faults shelf.new) result }
+    ensures sound { IfOk result (IsSound (IfTold (H.files shelf.old) (SimulationHolds sheet.now mode ticks)) ⊥) }
 {
-    let sheet = sheet_at(alloc, shelf, name)?;
+    let sheet = sheet_at(alloc, shelf, sheet)?;
     simulated(alloc, &sheet, mode, ticks)
 }

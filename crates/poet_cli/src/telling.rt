@@ -2,8 +2,9 @@
 ghost use Rattle.std.specs.Prelude.{◌≡◌, ◌++◌, ◌≤◌, ℕ, Ok, Err, OnOk, OnErr, Result, take, codes, decimal};
 ghost use Rattle.poet_io.specs.Sinks.{Wrote, Appended, WroteLine};
 ghost use Rattle.poet_cli.specs.Refusals.{field_word as field_word_of, place_text, line_at, sheet_line, limit_line, points_line, line_of, write_failed, refusal_status};
-ghost use Rattle.poet_cli.specs.Clauses.{Finished};
+ghost use Rattle.poet_cli.specs.Clauses.{Finished, Told};
 
+use crate::printed::Printed;
 use crate::refusal::{Refusal, Source};
 use poet_io::{Sink, SinkFault, put_number, write_all, write_parts};
 use task_sheet::{Field, Place, SheetRefusal};
@@ -45,7 +46,7 @@ fn put_place(place: Place, digits: &mut [u8; 20]) -> (&'static str, usize)
 }
 
 /// Six pieces of one lifetime.
-pub fn write_six<'a, O: Sink>(
+fn write_six<'a, O: Sink>(
     out: &mut O,
     first: &'a [u8],
     second: &'a [u8],
@@ -188,7 +189,7 @@ fn write_points<E: Sink>(name: &str, err: &mut E) -> Result<(), SinkFault>
 }
 
 /// Three pieces.
-pub fn write_three<'a, O: Sink>(
+fn write_three<'a, O: Sink>(
     out: &mut O,
     first: &'a str,
     second: &'a str,
@@ -203,7 +204,7 @@ pub fn write_three<'a, O: Sink>(
 }
 
 /// Four pieces of one lifetime.
-pub fn write_four<'a, O: Sink>(
+fn write_four<'a, O: Sink>(
     out: &mut O,
     first: &'a [u8],
     second: &'a [u8],
@@ -247,7 +248,7 @@ fn write_refusal<E: Sink>(refusal: &Refusal, err: &mut E) -> Result<(), SinkFaul
 
 /// Tells a refusal, and answers its status.
 #[tactic(auto, using(poet_io::proofs::Telling::wrote_line))]
-pub fn tell_refusal<E: Sink>(refusal: &Refusal, err: &mut E) -> u8
+fn tell_refusal<E: Sink>(refusal: &Refusal, err: &mut E) -> u8
     ensures status { result ≡ refusal_status refusal.now }
     ensures line { WroteLine (E.written err.old) (E.written err.new) (E.faults err.old) (E.faults err.new) (line_of refusal.now) }
 {
@@ -257,7 +258,7 @@ pub fn tell_refusal<E: Sink>(refusal: &Refusal, err: &mut E) -> u8
 
 /// The status of a text that was written, or else 4 and its line.
 #[tactic(auto, using(poet_io::proofs::Telling::wrote_line, poet_io::proofs::Writing::stayed_same), unfolding(crate::specs::Refusals::write_failed))]
-pub fn finish<E: Sink>(written: Result<(), SinkFault>, status: u8, err: &mut E) -> u8
+fn finish<E: Sink>(written: Result<(), SinkFault>, status: u8, err: &mut E) -> u8
     ensures { Finished written status (E.written err.old) (E.written err.new) (E.faults err.old) (E.faults err.new) result }
 {
     match written {
@@ -266,5 +267,18 @@ pub fn finish<E: Sink>(written: Result<(), SinkFault>, status: u8, err: &mut E) 
             let _ = write_all(err, "write failed\n".as_bytes());
             4
         }
+    }
+}
+
+/// Tells how a command ended, and answers its status. Nothing else writes.
+pub fn tell<O: Sink, E: Sink>(ending: &Result<Printed, Refusal>, out: &mut O, err: &mut E) -> u8
+    ensures { Told ending.now
+        (record { out = O.written out.old; out_faults = O.faults out.old; err = E.written err.old; err_faults = E.faults err.old })
+        (record { out = O.written out.new; out_faults = O.faults out.new; err = E.written err.new; err_faults = E.faults err.new }) result }
+{
+    match ending {
+        Ok(Printed::Done(text)) => finish(write_all(out, text.as_slice()), 0, err),
+        Ok(Printed::JudgedNo(text)) => finish(write_all(out, text.as_slice()), 1, err),
+        Err(refusal) => tell_refusal(refusal, err),
     }
 }

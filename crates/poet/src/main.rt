@@ -1,27 +1,10 @@
 //! `poet`: judges bounds on the response times of real-time tasks.
 #![tactic(auto)]
 
-mod analysing;
-mod auditing;
-mod exercising;
-mod grammar;
-mod judged;
-mod judging;
-mod printed;
-mod printing;
-mod reading;
-mod refusal;
-mod reported;
-mod reporting;
-mod run_printing;
-mod simulating;
-mod telling;
-mod top;
-
+use poet_cli::poet_run;
 use poet_io::{FileShelf, StdSink};
 use std::process::ExitCode;
 use std::{env, io};
-use top::poet_run;
 
 /// The program's words without its own name.
 fn words(rt: &HostRuntime) -> io::Result<Vec<String>> {
@@ -44,6 +27,3 @@ fn main(rt: HostRuntime) -> ExitCode {
         }),
     }
 }
-
-#[cfg(test)]
-mod tests;

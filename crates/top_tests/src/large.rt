@@ -1,8 +1,6 @@
 //! Sheets at their limits, and a sheet that is printed and read again.
+use super::cases::{assert_said, shelf_of, sink_of, words_of};
 use super::files::{CROWD, EIGHT_TASKS};
-use super::{list, shelf};
-use crate::top::poet_run;
-use poet_io::MemSink;
 use sheet_text::{print_sheet, read_sheet};
 use std::alloc::{AllocError, Global};
 use std::fmt::Write;
@@ -53,22 +51,24 @@ fn segmented_task(alloc: Global, count: u32) -> Result<String, AllocError> {
     Ok(text)
 }
 
-fn assert_check(
+/// Compares what the program says to the words over two files.
+fn assert_words(
     rt: &impl Abort,
     alloc: Global,
+    words: &str,
     files: (&str, &str),
-    status: u8,
-    texts: (&str, &str),
+    said: (u8, &str, &str),
 ) -> Result<(), AllocError> {
-    let words = list(alloc, &["check", "s", "c"])?;
-    let (sheet, certificate) = (files.0.as_bytes(), files.1.as_bytes());
-    let mut shelf = shelf(alloc, sheet, certificate, Vec::new(alloc))?;
-    let mut out = MemSink::new(alloc, Vec::new(alloc), 4096, 65_536)?;
-    let mut err = MemSink::new(alloc, Vec::new(alloc), 4096, 4096)?;
-    let found = poet_run(alloc, &words, &mut shelf, &mut out, &mut err);
-    assert_eq!(rt; found, status);
-    assert_eq!(rt; out.taken(), texts.0.as_bytes());
-    assert_eq!(rt; err.taken(), texts.1.as_bytes());
+    let words = words_of(alloc, words)?;
+    let shelf = shelf_of(
+        alloc,
+        files.0.as_bytes(),
+        files.1.as_bytes(),
+        Vec::new(alloc),
+    )?;
+    let (out, err) = (sink_of(alloc, 262_144)?, sink_of(alloc, 4096)?);
+    let said = (said.0, said.1.as_bytes(), said.2.as_bytes());
+    assert_said(rt, alloc, &words, shelf, out, err, said);
     Ok(())
 }
 
@@ -78,7 +78,7 @@ fn as_many_tasks_as_there_may_be(rt: HostRuntime) -> Result<(), Fail> {
     let (sheet, certificate) = (equal_tasks(alloc, 256)?, equal_entries(alloc, 256)?);
     let lines = equal_lines(alloc, 256)?;
     let files = (sheet.as_str(), certificate.as_str());
-    assert_check(&rt, alloc, files, 0, (lines.as_str(), ""))?;
+    assert_words(&rt, alloc, "check s c", files, (0, lines.as_str(), ""))?;
     Ok(())
 }
 
@@ -87,7 +87,7 @@ fn one_task_too_many(rt: HostRuntime) -> Result<(), Fail> {
     let alloc = rt.alloc();
     let sheet = equal_tasks(alloc, 257)?;
     let line = "sheet: task out of range in top\n";
-    assert_check(&rt, alloc, (sheet.as_str(), ""), 5, ("", line))?;
+    assert_words(&rt, alloc, "check s c", (sheet.as_str(), ""), (5, "", line))?;
     Ok(())
 }
 
@@ -97,10 +97,12 @@ fn as_many_segments_as_there_may_be(rt: HostRuntime) -> Result<(), Fail> {
     let most = segmented_task(alloc, 1000)?;
     let certificate = "poet-cert 1\ntasks 1\ntask 0 1000 1000 1\np 0 1000\nend\n";
     let lines = "accepted\ntask a bound 1000 deadline 5000 met\n";
-    assert_check(&rt, alloc, (most.as_str(), certificate), 0, (lines, ""))?;
+    let files = (most.as_str(), certificate);
+    assert_words(&rt, alloc, "check s c", files, (0, lines, ""))?;
     let more = segmented_task(alloc, 1001)?;
     let line = "sheet: preemption out of range in task 0\n";
-    assert_check(&rt, alloc, (more.as_str(), certificate), 5, ("", line))?;
+    let files = (more.as_str(), certificate);
+    assert_words(&rt, alloc, "check s c", files, (5, "", line))?;
     Ok(())
 }
 
@@ -118,14 +120,9 @@ fn crowded_run(alloc: Global) -> Result<String, AllocError> {
 #[test]
 fn as_many_jobs_as_there_may_be(rt: HostRuntime) -> Result<(), Fail> {
     let alloc = rt.alloc();
-    let words = list(alloc, &["simulate", "s", "dense", "2"])?;
-    let mut shelf = shelf(alloc, CROWD.as_bytes(), b"".as_slice(), Vec::new(alloc))?;
-    let mut out = MemSink::new(alloc, Vec::new(alloc), 65_536, 262_144)?;
-    let mut err = MemSink::new(alloc, Vec::new(alloc), 99, 99)?;
-    let found = poet_run(alloc, &words, &mut shelf, &mut out, &mut err);
-    assert_eq!(rt; found, 0);
-    assert_eq!(rt; out.taken(), crowded_run(alloc)?.as_bytes());
-    assert_eq!(rt; err.taken(), b"".as_slice());
+    let run = crowded_run(alloc)?;
+    let said = (0, run.as_str(), "");
+    assert_words(&rt, alloc, "simulate s dense 2", (CROWD, ""), said)?;
     Ok(())
 }
 

@@ -1,0 +1,20 @@
+//! The commands of `poet`: from its words to what it writes and its status, on any shelf of files
+//! and any two sinks.
+#![tactic(auto)]
+
+mod analysing;
+mod auditing;
+mod exercising;
+mod grammar;
+mod judging;
+mod printed;
+mod printing;
+mod reading;
+mod refusal;
+mod reporting;
+mod run_printing;
+mod simulating;
+mod telling;
+mod top;
+
+pub use top::poet_run;

@@ -1,0 +1,182 @@
+//! Failing files and sinks, and files past their limits.
+use super::cases::{assert_said, shelf_of, sink_of, words_of};
+use super::files::{ONE_TASK, ONE_TASK_CERT};
+use poet_io::MemSink;
+use std::alloc::{AllocError, Global};
+use std::process::Abort;
+use std::test::Fail;
+
+/// Words over the first worked example, a fault, and what the program says then.
+#[derive(Clone, Copy)]
+struct Failing {
+    words: &'static str,
+    /// The failing call of the shelf.
+    call: u64,
+    /// The failing write of `out`.
+    write: u64,
+    status: u8,
+    out: &'static str,
+    err: &'static str,
+}
+
+/// The number of no call.
+const NEVER: u64 = 99;
+
+/// The call of the shelf fails.
+const fn unread(words: &'static str, call: u64, err: &'static str) -> Failing {
+    Failing {
+        words,
+        call,
+        write: NEVER,
+        status: 3,
+        out: "",
+        err,
+    }
+}
+
+/// The first write of `out` fails.
+const fn unwritten(words: &'static str) -> Failing {
+    Failing {
+        words,
+        call: NEVER,
+        write: 0,
+        status: 4,
+        out: "",
+        err: "write failed\n",
+    }
+}
+
+const NO_SHEET: &str = "read failed: sheet\n";
+
+const NO_CERTIFICATE: &str = "read failed: certificate\n";
+
+const NO_RUN: &str = "read failed: run\n";
+
+fn rows_of_check() -> [Failing; 7] {
+    [
+        Failing {
+            words: "check s c",
+            call: NEVER,
+            write: NEVER,
+            status: 0,
+            out: "accepted\ntask a bound 2 deadline 5 met\n",
+            err: "",
+        },
+        unread("check s c", 0, NO_SHEET),
+        unread("check s c", 1, NO_SHEET),
+        unread("check s c", 3, NO_CERTIFICATE),
+        unread("check s c", 4, NO_CERTIFICATE),
+        unread("check s d", NEVER, NO_CERTIFICATE),
+        unwritten("check s c"),
+    ]
+}
+
+fn rows_of_others() -> [Failing; 16] {
+    [
+        unread("analyse s 100", 0, NO_SHEET),
+        unread("analyse s 100", 1, NO_SHEET),
+        unwritten("analyse s 100"),
+        unread("simulate s dense 3", 0, NO_SHEET),
+        unread("simulate s dense 3", 1, NO_SHEET),
+        unwritten("simulate s dense 3"),
+        unread("audit s c", 0, NO_SHEET),
+        unread("audit s c", 1, NO_SHEET),
+        unread("audit s c", 3, NO_RUN),
+        unread("audit s c", 4, NO_RUN),
+        unread("report s c text", 0, NO_SHEET),
+        unread("report s c text", 1, NO_SHEET),
+        unread("report s c text", 3, NO_CERTIFICATE),
+        unread("report s c text", 4, NO_CERTIFICATE),
+        unwritten("report s c text"),
+        unwritten("exercise 1 1"),
+    ]
+}
+
+fn one(alloc: Global, at: u64) -> Result<Vec<u64>, AllocError> {
+    let mut all = Vec::new(alloc);
+    all.push(at)?;
+    Ok(all)
+}
+
+fn assert_failing(rt: &impl Abort, alloc: Global, row: &Failing) -> Result<(), AllocError> {
+    let words = words_of(alloc, row.words)?;
+    let (sheet, other) = (ONE_TASK.as_bytes(), ONE_TASK_CERT.as_bytes());
+    let shelf = shelf_of(alloc, sheet, other, one(alloc, row.call)?)?;
+    let out = MemSink::new(alloc, one(alloc, row.write)?, 1, 99)?;
+    let err = MemSink::new(alloc, Vec::new(alloc), 7, 99)?;
+    let said = (row.status, row.out.as_bytes(), row.err.as_bytes());
+    assert_said(rt, alloc, &words, shelf, out, err, said);
+    Ok(())
+}
+
+#[test]
+fn failing_files_and_sinks(rt: HostRuntime) -> Result<(), Fail> {
+    for row in rows_of_check() {
+        assert_failing(&rt, rt.alloc(), &row)?;
+    }
+    for row in rows_of_others() {
+        assert_failing(&rt, rt.alloc(), &row)?;
+    }
+    Ok(())
+}
+
+/// `check` of a sheet and a certificate.
+fn assert_check(
+    rt: &impl Abort,
+    alloc: Global,
+    sheet: &[u8],
+    certificate: &[u8],
+    said: (u8, &str, &str),
+) -> Result<(), AllocError> {
+    let words = words_of(alloc, "check s c")?;
+    let shelf = shelf_of(alloc, sheet, certificate, Vec::new(alloc))?;
+    let (out, err) = (sink_of(alloc, 99)?, sink_of(alloc, 99)?);
+    let said = (said.0, said.1.as_bytes(), said.2.as_bytes());
+    assert_said(rt, alloc, &words, shelf, out, err, said);
+    Ok(())
+}
+
+/// The first worked example's sheet, with a comment so that it has this many bytes.
+fn long_sheet(alloc: Global, len: usize) -> Result<Vec<u8>, AllocError> {
+    let mut bytes = Vec::from_slice(alloc, ONE_TASK.as_bytes())?;
+    bytes.push(b'#')?;
+    for _ in bytes.len()..len {
+        bytes.push(b'#')?;
+    }
+    Ok(bytes)
+}
+
+#[test]
+fn a_sheet_at_its_limit_and_past_it(rt: HostRuntime) -> Result<(), Fail> {
+    let alloc = rt.alloc();
+    let certificate = ONE_TASK_CERT.as_bytes();
+    let sheet = long_sheet(alloc, 1_048_576)?;
+    let text = "accepted\ntask a bound 2 deadline 5 met\n";
+    assert_check(&rt, alloc, &sheet, certificate, (0, text, ""))?;
+    let longer = long_sheet(alloc, 1_048_577)?;
+    let line = "limit: sheet is longer than 1048576 bytes\n";
+    assert_check(&rt, alloc, &longer, certificate, (7, "", line))?;
+    Ok(())
+}
+
+#[test]
+fn a_certificate_past_its_limit(rt: HostRuntime) -> Result<(), Fail> {
+    let alloc = rt.alloc();
+    let certificate = vec![in alloc; b'p'; 67_108_865]?;
+    let line = "limit: certificate is longer than 67108864 bytes\n";
+    assert_check(&rt, alloc, ONE_TASK.as_bytes(), &certificate, (7, "", line))?;
+    Ok(())
+}
+
+#[test]
+fn a_sheet_that_is_no_text(rt: HostRuntime) -> Result<(), Fail> {
+    let line = "sheet: not a TOML document\n";
+    assert_check(
+        &rt,
+        rt.alloc(),
+        &[0xff],
+        ONE_TASK_CERT.as_bytes(),
+        (5, "", line),
+    )?;
+    Ok(())
+}

@@ -1,0 +1,22 @@
+//! Tests of the top call on files in memory: worked examples with their exact bytes. The library
+//! itself is empty, so that no other crate is proved with these tests.
+#![tactic(auto)]
+
+#[cfg(test)]
+mod analyses;
+#[cfg(test)]
+mod cases;
+#[cfg(test)]
+mod checks;
+#[cfg(test)]
+mod commands;
+#[cfg(test)]
+mod failing;
+#[cfg(test)]
+mod files;
+#[cfg(test)]
+mod grammar;
+#[cfg(test)]
+mod large;
+#[cfg(test)]
+mod whole;

@@ -11,80 +11,8 @@ use std::test::Fail;
 use supply::Unit;
 use task_sheet::{PolicyKind, Sheet};
 
-/// A sheet, a horizon, and the lines of its best certificate between the first and the last, or the
-/// cause why there is none.
-type Row = (&'static str, u64, Result<&'static str, AnalyseRefusal>);
-
-const BEST: [Row; 10] = [
-    (
-        "policy = 'fp'
-task = [{ name = 'a', cost = 2, deadline = 5, priority = 1, period = 5 }]",
-        100,
-        Ok("tasks 1\ntask 0 2 2 1\np 0 2\n"),
-    ),
-    (
-        "policy = 'fp'
-task = [{ name = 'a', cost = 2, deadline = 5, priority = 1, curve = { horizon = 5, steps = [[1, 2]] } }]",
-        100,
-        Ok("tasks 1\ntask 0 4 4 1\np 0 4\n"),
-    ),
-    (
-        "policy = 'fp'
-task = [{ name = 'a', cost = 1, deadline = 1, priority = 1, period = 1 }]",
-        100,
-        Ok("tasks 1\ntask 0 1 1 1\np 0 1\n"),
-    ),
-    (
-        "policy = 'fp'
-task = [
-    { name = 'high', cost = 1, deadline = 4, priority = 2, period = 4 },
-    { name = 'low', cost = 2, deadline = 6, priority = 1, period = 6 },
-]",
-        100,
-        Ok("tasks 2\ntask 0 1 1 1\np 0 1\ntask 1 3 3 1\np 0 3\n"),
-    ),
-    (
-        "policy = 'fp'
-task = [
-    { name = 'high', cost = 1, deadline = 4, priority = 2, period = 4 },
-    { name = 'low', cost = 2, deadline = 6, priority = 1, period = 6, preemption = 'never' },
-]",
-        100,
-        Ok("tasks 2\ntask 0 2 2 1\np 0 2\ntask 1 3 3 1\np 0 2\n"),
-    ),
-    (
-        TWO_DEADLINES,
-        100,
-        Ok("tasks 2\ntask 0 4 2 2\np 0 2\np 2 4\ntask 1 4 4 2\np 0 4\np 2 4\n"),
-    ),
-    (
-        "policy = 'fifo'
-task = [
-    { name = 'a', cost = 2, deadline = 4, period = 4 },
-    { name = 'b', cost = 2, deadline = 6, period = 6 },
-]",
-        100,
-        Ok("tasks 2\ntask 0 4 4 1\np 0 4\ntask 1 4 4 1\np 0 4\n"),
-    ),
-    (
-        "policy = 'fp'
-supply = { horizon = 4, times = [3, 4] }
-task = [{ name = 'a', cost = 2, deadline = 10, priority = 1, period = 10 }]",
-        100,
-        Ok("tasks 1\ntask 0 4 4 1\np 0 4\n"),
-    ),
-    (
-        "policy = 'fp'
-supply = { horizon = 4, times = [3, 4] }
-task = [{ name = 'a', cost = 2, deadline = 10, priority = 1, period = 10, preemption = 'never' }]",
-        100,
-        Ok("tasks 1\ntask 0 4 4 1\np 0 3\n"),
-    ),
-    (
-        EIGHT_TASKS,
-        1_000_000,
-        Ok(
-            "tasks 8
+const OF_EIGHT_TASKS: &str = "poet-cert 1
+tasks 8
 task 0 619 619 1
 p 0 619
 task 1 819 819 1
@@ -101,9 +29,78 @@ task 6 13140 10440 1
 p 0 9941
 task 7 29820 29820 1
 p 0 29820
-",
-        ),
+end
+";
+
+/// A sheet, a horizon, and the text of its best certificate, or the cause why there is none.
+type Row = (&'static str, u64, Result<&'static str, AnalyseRefusal>);
+
+const BEST: [Row; 10] = [
+    (
+        "policy = 'fp'
+task = [{ name = 'a', cost = 2, deadline = 5, priority = 1, period = 5 }]",
+        100,
+        Ok("poet-cert 1\ntasks 1\ntask 0 2 2 1\np 0 2\nend\n"),
     ),
+    (
+        "policy = 'fp'
+task = [{ name = 'a', cost = 2, deadline = 5, priority = 1, curve = { horizon = 5, steps = [[1, 2]] } }]",
+        100,
+        Ok("poet-cert 1\ntasks 1\ntask 0 4 4 1\np 0 4\nend\n"),
+    ),
+    (
+        "policy = 'fp'
+task = [{ name = 'a', cost = 1, deadline = 1, priority = 1, period = 1 }]",
+        100,
+        Ok("poet-cert 1\ntasks 1\ntask 0 1 1 1\np 0 1\nend\n"),
+    ),
+    (
+        "policy = 'fp'
+task = [
+    { name = 'high', cost = 1, deadline = 4, priority = 2, period = 4 },
+    { name = 'low', cost = 2, deadline = 6, priority = 1, period = 6 },
+]",
+        100,
+        Ok("poet-cert 1\ntasks 2\ntask 0 1 1 1\np 0 1\ntask 1 3 3 1\np 0 3\nend\n"),
+    ),
+    (
+        "policy = 'fp'
+task = [
+    { name = 'high', cost = 1, deadline = 4, priority = 2, period = 4 },
+    { name = 'low', cost = 2, deadline = 6, priority = 1, period = 6, preemption = 'never' },
+]",
+        100,
+        Ok("poet-cert 1\ntasks 2\ntask 0 2 2 1\np 0 2\ntask 1 3 3 1\np 0 2\nend\n"),
+    ),
+    (
+        TWO_DEADLINES,
+        100,
+        Ok("poet-cert 1\ntasks 2\ntask 0 4 2 2\np 0 2\np 2 4\ntask 1 4 4 2\np 0 4\np 2 4\nend\n"),
+    ),
+    (
+        "policy = 'fifo'
+task = [
+    { name = 'a', cost = 2, deadline = 4, period = 4 },
+    { name = 'b', cost = 2, deadline = 6, period = 6 },
+]",
+        100,
+        Ok("poet-cert 1\ntasks 2\ntask 0 4 4 1\np 0 4\ntask 1 4 4 1\np 0 4\nend\n"),
+    ),
+    (
+        "policy = 'fp'
+supply = { horizon = 4, times = [3, 4] }
+task = [{ name = 'a', cost = 2, deadline = 10, priority = 1, period = 10 }]",
+        100,
+        Ok("poet-cert 1\ntasks 1\ntask 0 4 4 1\np 0 4\nend\n"),
+    ),
+    (
+        "policy = 'fp'
+supply = { horizon = 4, times = [3, 4] }
+task = [{ name = 'a', cost = 2, deadline = 10, priority = 1, period = 10, preemption = 'never' }]",
+        100,
+        Ok("poet-cert 1\ntasks 1\ntask 0 4 4 1\np 0 3\nend\n"),
+    ),
+    (EIGHT_TASKS, 1_000_000, Ok(OF_EIGHT_TASKS)),
 ];
 
 const REFUSED: [Row; 2] = [
@@ -137,12 +134,6 @@ fn analysed(alloc: Global, sheet: &Sheet, horizon: u64) -> Result<Cert, AnalyseR
     }
 }
 
-/// The certificate with these lines between its first and last.
-fn cert_of(alloc: Global, lines: &str) -> Result<Cert, Fail> {
-    let text = format!(in alloc; "poet-cert 1\n{lines}end\n")?;
-    Ok(read_cert(alloc, text.as_bytes())?)
-}
-
 #[test]
 fn best_certificates_and_causes(rt: HostRuntime) -> Result<(), Fail> {
     let alloc = rt.alloc();
@@ -150,7 +141,7 @@ fn best_certificates_and_causes(rt: HostRuntime) -> Result<(), Fail> {
         for (sheet, horizon, wanted) in rows {
             let found = analysed(alloc, &sheet_of(alloc, sheet)?, *horizon);
             let wanted = match wanted {
-                Ok(lines) => Ok(cert_of(alloc, lines)?),
+                Ok(text) => Ok(read_cert(alloc, text.as_bytes())?),
                 Err(cause) => Err(*cause),
             };
             assert_eq!(rt; found, wanted, "{sheet}");

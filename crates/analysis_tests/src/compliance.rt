@@ -187,28 +187,36 @@ fn runs_and_what_they_break(rt: HostRuntime) -> Result<(), Fail> {
     Ok(())
 }
 
-/// Which of four jobs fit, and which of the ticks of three jobs are valid.
-#[test]
-fn jobs_that_fit_and_valid_ticks(rt: HostRuntime) -> Result<(), Fail> {
-    let alloc = rt.alloc();
-    let sheet = sheet_of(alloc, TASKS)?;
-    let four = run_of(alloc, FOUR_JOBS)?;
-    let three = Run {
-        jobs: run_of(alloc, THREE_JOBS)?.jobs,
-        ticks: Items::new(TICKS.to_vec(alloc)?),
-    };
-    for (k, wanted) in [true, false, false, true].iter().enumerate() {
-        assert!(rt; k < four.jobs.len() && k < 4);
-        assert_eq!(rt;
-            fits::<PerTask>(&sheet, &four, k as u32),
-            *wanted,
-            "job {k}"
-        );
+/// Which of four jobs fit.
+fn fitting(sheet: &Sheet, run: &Run) -> Option<[bool; 4]> {
+    if run.jobs.len() != 4 {
+        return None;
     }
-    assert_eq!(rt; three.jobs.len(), 3);
+    Some([
+        fits::<PerTask>(sheet, run, 0),
+        fits::<PerTask>(sheet, run, 1),
+        fits::<PerTask>(sheet, run, 2),
+        fits::<PerTask>(sheet, run, 3),
+    ])
+}
+
+#[test]
+fn jobs_that_fit(rt: HostRuntime) -> Result<(), Fail> {
+    let sheet = sheet_of(rt.alloc(), TASKS)?;
+    let run = run_of(rt.alloc(), FOUR_JOBS)?;
+    assert_eq!(rt; fitting(&sheet, &run), Some([true, false, false, true]));
+    Ok(())
+}
+
+#[test]
+fn valid_ticks(rt: HostRuntime) -> Result<(), Fail> {
+    let Run { jobs, ticks: _ } = run_of(rt.alloc(), THREE_JOBS)?;
+    let ticks = Items::new(TICKS.to_vec(rt.alloc())?);
+    let run = Run { jobs, ticks };
+    assert_eq!(rt; run.jobs.len(), 3);
     for (t, wanted) in VALID.iter().enumerate() {
-        assert!(rt; t < three.ticks.len());
-        assert_eq!(rt; valid_at(&three, t as u64), *wanted, "tick {t}");
+        assert!(rt; t < run.ticks.len());
+        assert_eq!(rt; valid_at(&run, t as u64), *wanted, "tick {t}");
     }
     Ok(())
 }

@@ -21,49 +21,60 @@ task = [{ name = 'a', cost = 2, deadline = 1, priority = 1, period = 5 }]";
 /// A condition, a task and a point.
 type Found = Option<(Cond, Option<u32>, Option<u64>)>;
 
-/// The lines of a certificate between its first and last, whether deadlines are judged, and what is
-/// found.
+/// A certificate, whether deadlines are judged, and what is found.
 type Row = (&'static str, bool, Found);
 
 const OF_ONE_TASK: [Row; 8] = [
-    ("tasks 1\ntask 0 2 2 1\np 0 2\n", false, None),
-    ("tasks 1\ntask 0 7 2 2\np 0 2\np 5 7\n", false, None),
     (
-        "tasks 2\ntask 0 1 1 1\np 0 1\ntask 1 3 3 1\np 0 3\n",
+        "poet-cert 1\ntasks 1\ntask 0 2 2 1\np 0 2\nend\n",
+        false,
+        None,
+    ),
+    (
+        "poet-cert 1\ntasks 1\ntask 0 7 2 2\np 0 2\np 5 7\nend\n",
+        false,
+        None,
+    ),
+    (
+        "poet-cert 1\ntasks 2\ntask 0 1 1 1\np 0 1\ntask 1 3 3 1\np 0 3\nend\n",
         false,
         Some((Cond::K1, None, None)),
     ),
     (
-        "tasks 1\ntask 0 1 2 1\np 0 2\n",
+        "poet-cert 1\ntasks 1\ntask 0 1 2 1\np 0 2\nend\n",
         false,
         Some((Cond::K3, Some(0), None)),
     ),
     (
-        "tasks 1\ntask 0 2 2 1\np 1 2\n",
+        "poet-cert 1\ntasks 1\ntask 0 2 2 1\np 1 2\nend\n",
         false,
         Some((Cond::K4, Some(0), Some(1))),
     ),
     (
-        "tasks 1\ntask 0 7 2 1\np 0 2\n",
+        "poet-cert 1\ntasks 1\ntask 0 7 2 1\np 0 2\nend\n",
         false,
         Some((Cond::K5, Some(0), Some(0))),
     ),
     (
-        "tasks 1\ntask 0 2 1 1\np 0 2\n",
+        "poet-cert 1\ntasks 1\ntask 0 2 1 1\np 0 2\nend\n",
         false,
         Some((Cond::K6, Some(0), Some(0))),
     ),
     (
-        "tasks 1\ntask 0 2 2 1\np 0 1\n",
+        "poet-cert 1\ntasks 1\ntask 0 2 2 1\np 0 1\nend\n",
         false,
         Some((Cond::K7, Some(0), Some(0))),
     ),
 ];
 
 const OF_A_SHORT_DEADLINE: [Row; 2] = [
-    ("tasks 1\ntask 0 2 2 1\np 0 2\n", false, None),
     (
-        "tasks 1\ntask 0 2 2 1\np 0 2\n",
+        "poet-cert 1\ntasks 1\ntask 0 2 2 1\np 0 2\nend\n",
+        false,
+        None,
+    ),
+    (
+        "poet-cert 1\ntasks 1\ntask 0 2 2 1\np 0 2\nend\n",
         true,
         Some((Cond::K9, Some(0), None)),
     ),
@@ -71,31 +82,30 @@ const OF_A_SHORT_DEADLINE: [Row; 2] = [
 
 const OF_TWO_DEADLINES: [Row; 3] = [
     (
-        "tasks 2\ntask 0 4 2 2\np 0 2\np 2 4\ntask 1 4 4 2\np 0 4\np 2 4\n",
+        "poet-cert 1\ntasks 2\ntask 0 4 2 2\np 0 2\np 2 4\ntask 1 4 4 2\np 0 4\np 2 4\nend\n",
         false,
         None,
     ),
     (
-        "tasks 2\ntask 0 4 2 1\np 0 2\ntask 1 4 4 2\np 0 4\np 2 4\n",
+        "poet-cert 1\ntasks 2\ntask 0 4 2 1\np 0 2\ntask 1 4 4 2\np 0 4\np 2 4\nend\n",
         false,
         Some((Cond::K5, Some(0), Some(0))),
     ),
     (
-        "tasks 2\ntask 0 4 2 2\np 0 2\np 2 3\ntask 1 4 4 2\np 0 4\np 2 4\n",
+        "poet-cert 1\ntasks 2\ntask 0 4 2 2\np 0 2\np 2 3\ntask 1 4 4 2\np 0 4\np 2 4\nend\n",
         false,
         Some((Cond::K7, Some(0), Some(2))),
     ),
 ];
 
-/// The first condition that fails of the certificate with these lines.
+/// The first condition that fails of the certificate of this text.
 fn judged<P: Policy>(
     alloc: Global,
     sheet: &str,
-    lines: &str,
+    text: &str,
     deadlines: bool,
 ) -> Result<Found, Fail> {
     let sheet = sheet_of(alloc, sheet)?;
-    let text = format!(in alloc; "poet-cert 1\n{lines}end\n")?;
     let cert = read_cert(alloc, text.as_bytes())?;
     let failed = first_failed::<P, PerTask, Unit>(&sheet, &Unit, &cert, deadlines);
     Ok(failed.map(|it| (it.cond, it.task, it.point)))
@@ -107,9 +117,9 @@ fn assert_rows<P: Policy>(
     sheet: &str,
     rows: &[Row],
 ) -> Result<(), Fail> {
-    for (lines, deadlines, wanted) in rows {
-        let found = judged::<P>(alloc, sheet, lines, *deadlines)?;
-        assert_eq!(rt; found, *wanted, "{lines}");
+    for (text, deadlines, wanted) in rows {
+        let found = judged::<P>(alloc, sheet, text, *deadlines)?;
+        assert_eq!(rt; found, *wanted, "{text}");
     }
     Ok(())
 }

@@ -61,13 +61,7 @@ fn can_cut<M: Tabled>(task: &Task, job: &Job, sums: &[u64], s: u64) -> bool
 }
 
 /// Whether job `k` can be cut once it has had `s` ticks of service.
-pub fn can_cut_job<M: Tabled>(
-    sheet: &Sheet,
-    run: &Run,
-    sums: &[Vec<u64>],
-    k: u32,
-    s: u64,
-) -> bool
+pub fn can_cut_job<M: Tabled>(sheet: &Sheet, run: &Run, sums: &[Vec<u64>], k: u32, s: u64) -> bool
     requires job { k < length run.now.jobs }
     requires tasks { AreOf sheet.now run.now }
     requires served { Serves M.cuts sheet.now }

@@ -7,7 +7,6 @@ use std::process::Abort;
 use std::test::Fail;
 
 /// Words over the first worked example, a fault, and what the program says then.
-#[derive(Clone, Copy)]
 struct Failing {
     words: &'static str,
     /// The failing call of the shelf.
@@ -22,75 +21,198 @@ struct Failing {
 /// The number of no call.
 const NEVER: u64 = 99;
 
-/// The call of the shelf fails.
-const fn unread(words: &'static str, call: u64, err: &'static str) -> Failing {
-    Failing {
-        words,
-        call,
-        write: NEVER,
-        status: 3,
-        out: "",
-        err,
-    }
-}
-
-/// The first write of `out` fails.
-const fn unwritten(words: &'static str) -> Failing {
-    Failing {
-        words,
-        call: NEVER,
-        write: 0,
-        status: 4,
-        out: "",
-        err: "write failed\n",
-    }
-}
-
 const NO_SHEET: &str = "read failed: sheet\n";
 
 const NO_CERTIFICATE: &str = "read failed: certificate\n";
 
 const NO_RUN: &str = "read failed: run\n";
 
-fn rows_of_check() -> [Failing; 7] {
-    [
-        Failing {
-            words: "check s c",
-            call: NEVER,
-            write: NEVER,
-            status: 0,
-            out: "accepted\ntask a bound 2 deadline 5 met\n",
-            err: "",
-        },
-        unread("check s c", 0, NO_SHEET),
-        unread("check s c", 1, NO_SHEET),
-        unread("check s c", 3, NO_CERTIFICATE),
-        unread("check s c", 4, NO_CERTIFICATE),
-        unread("check s d", NEVER, NO_CERTIFICATE),
-        unwritten("check s c"),
-    ]
-}
-
-fn rows_of_others() -> [Failing; 16] {
-    [
-        unread("analyse s 100", 0, NO_SHEET),
-        unread("analyse s 100", 1, NO_SHEET),
-        unwritten("analyse s 100"),
-        unread("simulate s dense 3", 0, NO_SHEET),
-        unread("simulate s dense 3", 1, NO_SHEET),
-        unwritten("simulate s dense 3"),
-        unread("audit s c", 0, NO_SHEET),
-        unread("audit s c", 1, NO_SHEET),
-        unread("audit s c", 3, NO_RUN),
-        unread("audit s c", 4, NO_RUN),
-        unread("report s c text", 0, NO_SHEET),
-        unread("report s c text", 1, NO_SHEET),
-        unread("report s c text", 3, NO_CERTIFICATE),
-        unread("report s c text", 4, NO_CERTIFICATE),
-        unwritten("report s c text"),
-        unwritten("exercise 1 1"),
-    ]
-}
+const FAILING: [Failing; 23] = [
+    Failing {
+        words: "check s c",
+        call: NEVER,
+        write: NEVER,
+        status: 0,
+        out: "accepted\ntask a bound 2 deadline 5 met\n",
+        err: "",
+    },
+    Failing {
+        words: "check s c",
+        call: 0,
+        write: NEVER,
+        status: 3,
+        out: "",
+        err: NO_SHEET,
+    },
+    Failing {
+        words: "check s c",
+        call: 1,
+        write: NEVER,
+        status: 3,
+        out: "",
+        err: NO_SHEET,
+    },
+    Failing {
+        words: "check s c",
+        call: 3,
+        write: NEVER,
+        status: 3,
+        out: "",
+        err: NO_CERTIFICATE,
+    },
+    Failing {
+        words: "check s c",
+        call: 4,
+        write: NEVER,
+        status: 3,
+        out: "",
+        err: NO_CERTIFICATE,
+    },
+    Failing {
+        words: "check s d",
+        call: NEVER,
+        write: NEVER,
+        status: 3,
+        out: "",
+        err: NO_CERTIFICATE,
+    },
+    Failing {
+        words: "check s c",
+        call: NEVER,
+        write: 0,
+        status: 4,
+        out: "",
+        err: "write failed\n",
+    },
+    Failing {
+        words: "analyse s 100",
+        call: 0,
+        write: NEVER,
+        status: 3,
+        out: "",
+        err: NO_SHEET,
+    },
+    Failing {
+        words: "analyse s 100",
+        call: 1,
+        write: NEVER,
+        status: 3,
+        out: "",
+        err: NO_SHEET,
+    },
+    Failing {
+        words: "analyse s 100",
+        call: NEVER,
+        write: 0,
+        status: 4,
+        out: "",
+        err: "write failed\n",
+    },
+    Failing {
+        words: "simulate s dense 3",
+        call: 0,
+        write: NEVER,
+        status: 3,
+        out: "",
+        err: NO_SHEET,
+    },
+    Failing {
+        words: "simulate s dense 3",
+        call: 1,
+        write: NEVER,
+        status: 3,
+        out: "",
+        err: NO_SHEET,
+    },
+    Failing {
+        words: "simulate s dense 3",
+        call: NEVER,
+        write: 0,
+        status: 4,
+        out: "",
+        err: "write failed\n",
+    },
+    Failing {
+        words: "audit s c",
+        call: 0,
+        write: NEVER,
+        status: 3,
+        out: "",
+        err: NO_SHEET,
+    },
+    Failing {
+        words: "audit s c",
+        call: 1,
+        write: NEVER,
+        status: 3,
+        out: "",
+        err: NO_SHEET,
+    },
+    Failing {
+        words: "audit s c",
+        call: 3,
+        write: NEVER,
+        status: 3,
+        out: "",
+        err: NO_RUN,
+    },
+    Failing {
+        words: "audit s c",
+        call: 4,
+        write: NEVER,
+        status: 3,
+        out: "",
+        err: NO_RUN,
+    },
+    Failing {
+        words: "report s c text",
+        call: 0,
+        write: NEVER,
+        status: 3,
+        out: "",
+        err: NO_SHEET,
+    },
+    Failing {
+        words: "report s c text",
+        call: 1,
+        write: NEVER,
+        status: 3,
+        out: "",
+        err: NO_SHEET,
+    },
+    Failing {
+        words: "report s c text",
+        call: 3,
+        write: NEVER,
+        status: 3,
+        out: "",
+        err: NO_CERTIFICATE,
+    },
+    Failing {
+        words: "report s c text",
+        call: 4,
+        write: NEVER,
+        status: 3,
+        out: "",
+        err: NO_CERTIFICATE,
+    },
+    Failing {
+        words: "report s c text",
+        call: NEVER,
+        write: 0,
+        status: 4,
+        out: "",
+        err: "write failed\n",
+    },
+    Failing {
+        words: "exercise 1 1",
+        call: NEVER,
+        write: 0,
+        status: 4,
+        out: "",
+        err: "write failed\n",
+    },
+];
 
 fn one(alloc: Global, at: u64) -> Result<Vec<u64>, AllocError> {
     let mut all = Vec::new(alloc);
@@ -111,11 +233,8 @@ fn assert_failing(rt: &impl Abort, alloc: Global, row: &Failing) -> Result<(), A
 
 #[test]
 fn failing_files_and_sinks(rt: HostRuntime) -> Result<(), Fail> {
-    for row in rows_of_check() {
-        assert_failing(&rt, rt.alloc(), &row)?;
-    }
-    for row in rows_of_others() {
-        assert_failing(&rt, rt.alloc(), &row)?;
+    for row in &FAILING {
+        assert_failing(&rt, rt.alloc(), row)?;
     }
     Ok(())
 }

@@ -1,5 +1,4 @@
 pub mod EndingFacts
-pub mod StepFacts
 mod SeenFacts
 mod LengthFacts
 mod AnalysisFacts

@@ -1,6 +1,5 @@
 //! What a seed makes: words, a sheet, and whole exercises.
-use exercise::{Exercise, exercise};
-use exercise::make_sheet;
+use exercise::{Exercise, exercise, make_sheet};
 use rand_core::SeedableRng;
 use rand_core::utils::NextWord;
 use rand_xoshiro::SplitMix64;

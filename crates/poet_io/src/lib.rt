@@ -4,6 +4,7 @@
 
 mod calls;
 mod file_shelf;
+mod log;
 mod mem_shelf;
 mod mem_sink;
 mod numbers;
@@ -13,6 +14,7 @@ mod sink;
 mod std_sink;
 
 pub use file_shelf::FileShelf;
+pub use log::{Call, Event, Log, Taken};
 pub use mem_shelf::MemShelf;
 pub use mem_sink::MemSink;
 pub use numbers::{put_number, read_number, read_number_in};

@@ -3,6 +3,7 @@
 #![tactic(auto)]
 
 mod calls;
+mod eater;
 mod file_shelf;
 mod log;
 mod mem_shelf;
@@ -13,11 +14,12 @@ mod shelf;
 mod sink;
 mod std_sink;
 
+pub use eater::{Eater, PourRefusal, pour};
 pub use file_shelf::FileShelf;
 pub use log::{Call, Event, Log, Taken};
 pub use mem_shelf::MemShelf;
 pub use mem_sink::MemSink;
-pub use numbers::{put_number, read_number, read_number_in};
+pub use numbers::{put_number, put_wide, read_number, read_number_in};
 pub use pushing::{push_field, push_number};
 pub use shelf::{ReadRefusal, Shelf, ShelfFault, read_whole};
 pub use sink::{Sink, SinkFault, write_all, write_parts};

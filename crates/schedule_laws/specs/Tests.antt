@@ -1,10 +1,9 @@
 use Rattle.std.specs.Prelude.{◌≡◌, ℕ, ◌+◌, ◌-◌, ◌<◌, ◌≤◌, ◌≢◌, ◌↔◌, true, false, length}
 use Rattle.curve.specs.Curves.{alpha_of}
 use Rattle.task_sheet.specs.SheetParts.{SheetParts}
-use Rattle.task_sheet.specs.Sheets.{task_at, IsValidSheet}
+use Rattle.task_sheet.specs.Sheets.{task_at, IsOf, IsValidSheet}
 use Rattle.policy.specs.Keys.{key_le}
 use Rattle.policy.specs.PolicyMeaning.{PolicyMeaning}
-use Rattle.policy.specs.PolicyLaws.{IsOf}
 use Rattle.preemption.specs.CutMeaning.{CutMeaning}
 use Rattle.run_model.specs.declared.run.Run.{Run}
 use Rattle.run_model.specs.declared.run.Tick.TheVariants.{Off, Idle, Runs}

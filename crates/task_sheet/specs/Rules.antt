@@ -1,4 +1,4 @@
-use Rattle.std.specs.Prelude.{ℕ, ◌+◌, ◌==◌, ◌&&◌, Bool, true, not, List, [], ◌∷◌, ◌++◌, length, nat_le, nat_lt, sum, Result, Ok, bytes_eq}
+use Rattle.std.specs.Prelude.{ℕ, ℤ, pos, neg_ℤ, ◌+◌, ◌==◌, ◌&&◌, Bool, true, not, List, [], ◌∷◌, ◌++◌, length, nat_le, nat_lt, int_le, sum, Result, Ok, bytes_eq}
 use Rattle.std.specs.List.{list_all, list_any}
 use Rattle.lists.specs.Ranges.{is_between}
 use Rattle.task_sheet.specs.declared.tasks.PolicyKind.{PolicyKind}
@@ -13,6 +13,17 @@ use Rattle.task_sheet.specs.declared.refusal.SheetRefusal.{SheetRefusal}
 use Rattle.task_sheet.specs.declared.refusal.SheetRefusal.TheVariants.{Range, Order, Twice, Sum}
 use Rattle.task_sheet.specs.SheetParts.{SheetParts}
 use Rattle.task_sheet.specs.Refusing.{◌>>=◌, holds}
+
+-- the greatest jitter of a task
+unfoldable pub most_jitter : ℕ
+most_jitter = 0
+
+-- how far from 0 a priority point lies at most
+unfoldable pub most_point : ℕ
+most_point = 0
+
+abbrev pub is_priority_point : ℤ → Bool
+is_priority_point q = int_le (neg_ℤ (pos most_point)) q && int_le q (pos most_point)
 
 -- a number of a sheet that may not be 0
 abbrev pub is_positive : ℕ → Bool
@@ -71,6 +82,8 @@ task_rule n names task =
     >>= (λ _. holds (is_positive task.cost) (Range (places.Task n) fields.Cost))
     >>= (λ _. holds (is_positive task.deadline) (Range (places.Task n) fields.Deadline))
     >>= (λ _. holds (nat_le task.priority 1000000000) (Range (places.Task n) fields.Priority))
+    >>= (λ _. holds (nat_le task.jitter most_jitter) (Range (places.Task n) fields.Jitter))
+    >>= (λ _. holds (is_priority_point task.point) (Range (places.Task n) fields.Point))
     >>= (λ _. cut_rule n task.cost task.cut)
 
 -- the tasks from number n on, after tasks of these names

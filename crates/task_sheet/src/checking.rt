@@ -11,6 +11,10 @@ use crate::refusal::{Field, Place, SheetRefusal};
 use crate::tasks::{Cut, SupplySpec, Task};
 
 const GREATEST: u64 = 1_000_000_000;
+/// The greatest jitter of a task.
+pub const MOST_JITTER: u64 = 0;
+/// How far from 0 a priority point lies at most.
+pub const MOST_POINT: i64 = 0;
 
 fn is_positive(n: u64) -> bool
     ensures { result ≡ is_positive_of n }
@@ -212,6 +216,20 @@ fn check_task(n: u32, earlier: &[Task], task: &Task) -> Result<(), SheetRefusal>
         SheetRefusal::Range {
             place,
             field: Field::Priority,
+        },
+    )?;
+    holds(
+        task.jitter <= MOST_JITTER,
+        SheetRefusal::Range {
+            place,
+            field: Field::Jitter,
+        },
+    )?;
+    holds(
+        -MOST_POINT <= task.point && task.point <= MOST_POINT,
+        SheetRefusal::Range {
+            place,
+            field: Field::Point,
         },
     )?;
     check_cut(n, task.cost, &task.cut)

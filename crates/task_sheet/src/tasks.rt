@@ -46,6 +46,10 @@ pub struct Task {
     pub deadline: u64,
     /// A greater one is more urgent.
     pub priority: u64,
+    /// How long after its arrival a job may be released at most.
+    pub jitter: u64,
+    /// The priority point, relative to the arrival.
+    pub point: i64,
     /// How many jobs may arrive.
     pub curve: Prefix,
     pub cut: Cut,
@@ -57,6 +61,8 @@ pub struct Job {
     /// The task's number in its sheet.
     pub task: u32,
     pub arrival: u64,
+    /// From then on the job is ready: at its arrival, or later by its task's jitter at most.
+    pub release: u64,
     /// The service that it needs.
     pub cost: u64,
     /// The lengths between which it can be preempted, for a task with segments.

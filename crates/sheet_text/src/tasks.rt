@@ -136,6 +136,8 @@ fn task_of(
         cost,
         deadline,
         priority,
+        jitter: 0,
+        point: 0,
         curve,
         cut,
     })

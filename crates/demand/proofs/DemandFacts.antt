@@ -26,9 +26,6 @@ use Rattle.demand.specs.DemandLaws.{IsRising}
 pub rest_fits : (m : CutMeaning) (task : Task) (d : ℕ) → IsCurve task.curve → 1 ≤ d → task.cost - m.threshold task ≤ task.cost * alpha_of task.curve d
 rest_fits m task d ok some = omega (arith, mul-le-mul_left task.cost (alpha_one task.curve ok d some))
 
-pub jitter_high : (task : Task) → IsTask task → task.jitter ≤ 1000000000
-jitter_high task ok = ?
-
 -- the greatest is 0 or stands somewhere
 pub max_stands : (f : ℕ → ℕ) (n : ℕ) → (max_below f n ≡ 0) ⊎ ((o : ℕ) × (o < n) × (max_below f n ≡ f o))
 max_stands f zero = inl refl

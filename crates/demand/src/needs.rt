@@ -23,7 +23,7 @@ pub fn rest<M: Preemption>(sheet: &Sheet, i: u32) -> u64
 
 /// The demand of task `i` itself, in ticks, up to a job that is released `a` ticks into its
 /// window and to where that job is not cut any more.
-#[tactic(auto, using(crate::proofs::DemandFacts::rest_fits, crate::proofs::DemandFacts::jitter_high), unfolding(crate::specs::Demand::own_of))]
+#[tactic(auto, using(crate::proofs::DemandFacts::rest_fits, task_sheet::specs::Limits::jitter_high), unfolding(crate::specs::Demand::own_of))]
 pub fn own<M: Preemption>(sheet: &Sheet, i: u32, a: u64) -> u128
     requires task { i < length sheet.now.tasks }
     requires offset { a ≤ 1000000000 }
@@ -99,7 +99,7 @@ fn longest_delay<P: Policy, M: Preemption>(sheet: &Sheet, i: u32) -> u64
 }
 
 /// The demand of the class of task `i`, in ticks, within `l` ticks.
-#[tactic(auto, using(crate::proofs::DemandFacts::jitter_high))]
+#[tactic(auto, using(task_sheet::specs::Limits::jitter_high))]
 fn class_demand<P: Policy>(sheet: &Sheet, i: u32, l: u64) -> u128
     requires task { i < length sheet.now.tasks }
     requires window { l ≤ 1000000000 }

@@ -21,7 +21,7 @@ pub fn asked(task: &Task, d: u64) -> u128
 
 /// The ticks that those jobs of a task can ask for that are released within `x` ticks and arrive
 /// within the cap.
-#[tactic(auto, using(crate::proofs::DemandFacts::jitter_high))]
+#[tactic(auto, using(task_sheet::specs::Limits::jitter_high))]
 pub fn asked_within(task: &Task, cap: Cap, x: u64) -> u128
     requires valid { IsTask task.now }
     requires window { x ≤ 1000000000 }

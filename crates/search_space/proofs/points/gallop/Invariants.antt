@@ -1,0 +1,15 @@
+use Rattle.std.proofs.Common.{◌≡◌, ◌≤◌, ◌<◌, ◌+◌, ◌-◌, true}
+use Rattle.search_space.specs.Points.{same_at}
+use Rattle.search_space.proofs.points.gallop.Given as goal
+
+abbrev pub invariant-loop-next : goal.invariant-loop-next
+invariant-loop-next g l = record {
+  after : l.a ≤ l.same;
+  below : l.same < l.below;
+  jumps : 1 ≤ l.jump;
+  short : l.a + l.jump ≤ l.same + 1;
+  same : same_at g.P.Policy.meaning l.sheet l.i l.a l.same ≡ true;
+}
+
+abbrev pub decreases-loop-next : goal.decreases-loop-next
+decreases-loop-next g l = l.below - l.same

@@ -2,8 +2,8 @@ use Rattle.std.proofs.Common.{◌≡◌, ◌≤◌, ◌<◌, ◌+◌, ◌-◌, t
 use Rattle.search_space.specs.Points.{same_at}
 use Rattle.search_space.proofs.points.gallop.Given as goal
 
-abbrev pub invariant-loop-next : goal.invariant-loop-next
-invariant-loop-next g l = record {
+abbrev pub invariant-loop-i : goal.invariant-loop-next
+invariant-loop-i g l = record {
   after : l.a ≤ l.same;
   below : l.same < l.below;
   jumps : 1 ≤ l.jump;
@@ -11,5 +11,5 @@ invariant-loop-next g l = record {
   same : same_at g.P.Policy.meaning l.sheet l.i l.a l.same ≡ true;
 }
 
-abbrev pub decreases-loop-next : goal.decreases-loop-next
-decreases-loop-next g l = l.below - l.same
+abbrev pub decreases-loop-i : goal.decreases-loop-next
+decreases-loop-i g l = l.below - l.same

@@ -2,7 +2,7 @@ use Rattle.std.proofs.Common.{◌≡◌, ◌≤◌, ◌<◌, ◌+◌, ◌-◌, t
 use Rattle.search_space.specs.Points.{same_at}
 use Rattle.search_space.proofs.points.gallop.Given as goal
 
-abbrev pub invariant-loop-i : goal.invariant-loop-next
+abbrev pub invariant-loop-i : goal.invariant-loop-i
 invariant-loop-i g l = record {
   after : l.a ≤ l.same;
   below : l.same < l.below;
@@ -11,5 +11,5 @@ invariant-loop-i g l = record {
   same : same_at g.P.Policy.meaning l.sheet l.i l.a l.same ≡ true;
 }
 
-abbrev pub decreases-loop-i : goal.decreases-loop-next
+abbrev pub decreases-loop-i : goal.decreases-loop-i
 decreases-loop-i g l = l.below - l.same

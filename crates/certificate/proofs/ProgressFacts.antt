@@ -288,7 +288,7 @@ refused_bad b x n bad h = record {
   whole = ap (λ (t : List ℕ). t ++ x ∷ []) h.whole ∙ append_assoc h.front h.rest (x ∷ []);
   begins = h.begins;
   longest = λ longer more e begins. elim (last_or_none more) [
-    | inl none ↦ absurd (bad (subst (BeginsText cert_format) cert_format (sym (e ∙ ap (λ (t : List ℕ). longer ++ t) none ∙ append-nil longer)) begins))
+    | inl none ↦ absurd (bad (subst (BeginsText cert_format) (sym (e ∙ ap (λ (t : List ℕ). longer ++ t) none ∙ append-nil longer)) begins))
     | inr f ↦ h.longest longer f.0 ((same_from_push b (longer ++ f.0) x f.1 (e ∙ ap (λ (t : List ℕ). longer ++ t) f.2 ∙ sym (append_assoc longer f.0 (f.1 ∷ [])))).0) begins
   ];
   line = h.line;

@@ -9,6 +9,7 @@ use Rattle.std.proofs.lemmas.Nat.{mod_below}
 use Rattle.lists.specs.Ranges.{is_between}
 use Rattle.curve.specs.Curves.{periodic}
 use Rattle.curve.specs.Validity.{IsCurve}
+use Rattle.task_sheet.specs.Limits.{no_point}
 use Rattle.task_sheet.specs.Rules.{is_name, is_in_range, are_in_range}
 use Rattle.task_sheet.specs.Sheets.{CutFits, IsTask}
 use Rattle.task_sheet.proofs.RuleFacts.{positive_from}
@@ -68,6 +69,8 @@ task_valid i period cost b l h d g = record {
   deadline_low = l;
   deadline_high = h;
   priority_high = omega arith;
+  jitter_high = omega arith;
+  point = no_point;
   curve = curve_valid period l h;
   cut = cut_fits (i % 4) cost d g;
 }

@@ -1,12 +1,12 @@
 //! The least job that breaks a rule of scheduling at a tick.
-ghost use Rattle.std.specs.Prelude.{◌≡◌, ◌<◌, ◌≤◌, ◌^◌, ◌↔◌, ℕ, length, IsTrue};
+ghost use Rattle.std.specs.Prelude.{◌≡◌, ◌<◌, ◌≤◌, ◌^◌, ℕ, length, true};
 ghost use Rattle.lists.specs.Searches.{IsFirstBelow};
 ghost use Rattle.policy.specs.Keys.{key_le};
-ghost use Rattle.policy.specs.PolicyLaws.{IsOf};
+ghost use Rattle.task_sheet.specs.Sheets.{IsOf};
 ghost use Rattle.run_model.specs.Runs.{job_at, tick_at};
 ghost use Rattle.run_model.specs.declared.run.Tick.TheVariants.{Runs};
 ghost use Rattle.schedule_laws.specs.Compliance.{can_cut};
-ghost use Rattle.schedule_laws.specs.Tests.{AreOf, AreEarly, IsIdleBroken, IsSegmentBroken, IsPriorityBroken};
+ghost use Rattle.schedule_laws.specs.Tests.{AreOf, AreEarly, is_idle_broken as is_idle_broken_by, is_segment_broken as is_segment_broken_by, is_priority_broken as is_priority_broken_by};
 
 use policy::Policy;
 use preemption::Preemption;
@@ -17,7 +17,7 @@ use task_sheet::Sheet;
 fn is_idle_broken(run: &Run, t: u64, k: u32) -> bool
     requires job { k < length run.now.jobs }
     requires tick { t < length run.now.ticks }
-    ensures { IsTrue result ↔ IsIdleBroken run.now t k }
+    ensures { result ≡ is_idle_broken_by run.now t k }
 {
     match run.ticks.as_slice()[t as usize] {
         Tick::Idle => is_pending(run, k, t),
@@ -29,7 +29,7 @@ fn is_idle_broken(run: &Run, t: u64, k: u32) -> bool
 pub fn idle_broken(run: &Run, t: u64) -> Option<u32>
     requires few { length run.now.jobs < 2 ^ 32 }
     requires tick { t < length run.now.ticks }
-    ensures { IsFirstBelow (IsIdleBroken run.now t) (length run.now.jobs) result }
+    ensures { IsFirstBelow (λ k. is_idle_broken_by run.now t k ≡ true) (length run.now.jobs) result }
 {
     for k in 0..run.jobs.len() as u32 {
         if is_idle_broken(run, t, k) {
@@ -55,7 +55,7 @@ fn is_segment_broken<M: Preemption>(sheet: &Sheet, run: &Run, t: u64, k: u32) ->
     requires job { k < length run.now.jobs }
     requires tick { t < length run.now.ticks }
     requires task { IsOf sheet.now (job_at run.now k) }
-    ensures { IsTrue result ↔ IsSegmentBroken M.cuts sheet.now run.now t k }
+    ensures { result ≡ is_segment_broken_by M.cuts sheet.now run.now t k }
 {
     let runs_other = match run.ticks.as_slice()[t as usize] {
         Tick::Off => false,
@@ -70,7 +70,7 @@ pub fn segment_broken<M: Preemption>(sheet: &Sheet, run: &Run, t: u64) -> Option
     requires few { length run.now.jobs < 2 ^ 32 }
     requires tick { t < length run.now.ticks }
     requires tasks { AreOf sheet.now run.now }
-    ensures { IsFirstBelow (IsSegmentBroken M.cuts sheet.now run.now t) (length run.now.jobs) result }
+    ensures { IsFirstBelow (λ k. is_segment_broken_by M.cuts sheet.now run.now t k ≡ true) (length run.now.jobs) result }
 {
     for k in 0..run.jobs.len() as u32 {
         if is_segment_broken::<M>(sheet, run, t, k) {
@@ -99,7 +99,7 @@ fn is_priority_broken<P: Policy, M: Preemption>(sheet: &Sheet, run: &Run, t: u64
     requires tasks { AreOf sheet.now run.now }
     requires named { (k : ℕ) → tick_at run.now t ≡ Runs k → k < length run.now.jobs }
     requires arrivals { AreEarly run.now }
-    ensures { IsTrue result ↔ IsPriorityBroken P.meaning M.cuts sheet.now run.now t n }
+    ensures { result ≡ is_priority_broken_by P.meaning M.cuts sheet.now run.now t n }
 {
     let Tick::Runs(k) = run.ticks.as_slice()[t as usize] else {
         return false;
@@ -114,7 +114,7 @@ pub fn priority_broken<P: Policy, M: Preemption>(sheet: &Sheet, run: &Run, t: u6
     requires tasks { AreOf sheet.now run.now }
     requires named { (k : ℕ) → tick_at run.now t ≡ Runs k → k < length run.now.jobs }
     requires arrivals { AreEarly run.now }
-    ensures { IsFirstBelow (IsPriorityBroken P.meaning M.cuts sheet.now run.now t) (length run.now.jobs) result }
+    ensures { IsFirstBelow (λ n. is_priority_broken_by P.meaning M.cuts sheet.now run.now t n ≡ true) (length run.now.jobs) result }
 {
     for n in 0..run.jobs.len() as u32 {
         if is_priority_broken::<P, M>(sheet, run, t, n) {

@@ -1,6 +1,6 @@
 -- What each test tells.
-use Rattle.std.proofs.Common.{◌≡◌, ℕ, ◌+◌, ◌-◌, ◌<◌, ◌≤◌, ◌≢◌, ◌==◌, ◌&&◌, Bool, true, false, not, length, refl, sym, ◌∙◌, ap, arith, leb, ltb}
-use Rattle.std.proofs.lemmas.Bool.{and_parts, and_from, both_ways, false_from_ne_true, not-true, not-false, not_from_true, not_from_false, leb-true, leb-false, lt-leb, le-leb, ltb-true, ltb-false, lt-ltb, le-ltb, eqb-true, eq-eqb}
+use Rattle.std.proofs.Common.{◌≡◌, ℕ, ◌+◌, ◌-◌, ◌<◌, ◌≤◌, ◌≢◌, ◌↔◌, ◌==◌, ◌&&◌, Bool, true, false, not, length, refl, sym, ◌∙◌, ap, arith, leb, ltb}
+use Rattle.std.proofs.lemmas.Bool.{true≢false, and_parts, and_from, and_left, and_right, both_ways, false_from_ne_true, not-true, not-false, not_from_true, not_from_false, leb-true, leb-false, lt-leb, le-leb, ltb-true, ltb-false, lt-ltb, le-ltb, eqb-true, eq-eqb}
 use Rattle.lists.specs.Firsts.{all_below}
 use Rattle.lists.proofs.FirstFacts.{all_parts, all_from, all_broken, some_broken}
 use Rattle.curve.specs.Curves.{alpha_of}
@@ -70,6 +70,20 @@ released_to sheet run k r =
     not_from_true _ (and_from _ _ (timely_to sheet (job_at run k) r.timely)
     (all_from (λ n. not (is_overtaken run k n)) (length run.jobs) (λ n b. not_from_false (is_overtaken run k n) (before_none run k n _ (λ same earlier. le-ltb (job_at run k).release (job_at run n).release (r.order n b same earlier))))))
 
+-- what decides whether job k is released as its task allows
+
+pub untimely_breaks : (sheet : SheetParts) (run : Run) (k : ℕ) → is_timely sheet (job_at run k) ≡ false → is_release_broken sheet run k ≡ true
+unfolding is_release_broken
+untimely_breaks sheet run k h = not_from_false _ (and_left _ _ h)
+
+pub overtaken_breaks : (sheet : SheetParts) (run : Run) (k n : ℕ) → n < length run.jobs → is_overtaken run k n ≡ true → is_release_broken sheet run k ≡ true
+unfolding is_release_broken
+overtaken_breaks sheet run k n b h = not_from_false _ (and_right _ _ (all_broken (λ i. not (is_overtaken run k i)) (length run.jobs) n b (not_from_true (is_overtaken run k n) h)))
+
+pub never_overtaken : (sheet : SheetParts) (run : Run) (k : ℕ) → is_timely sheet (job_at run k) ≡ true → ((n : ℕ) → n < length run.jobs → is_overtaken run k n ≡ false) → is_release_broken sheet run k ≡ false
+unfolding is_release_broken
+never_overtaken sheet run k timely free = not_from_true _ (and_from _ _ timely (all_from (λ i. not (is_overtaken run k i)) (length run.jobs) (λ i b. not_from_false (is_overtaken run k i) (free i b))))
+
 -- what runs
 
 done_unless : (run : Run) (n t : ℕ) → not (is_done run n t) ≡ false → IsDone run n t
@@ -89,6 +103,25 @@ unfolding may_run
 may_run_to run k t r =
     and_from _ _ (pending_to run k t r.pending)
     (all_from (λ n. not (holds_back run k t n)) (length run.jobs) (λ n b. not_from_false (holds_back run k t n) (before_none run k n _ (λ same earlier. not_from_true (is_done run n t) (le-leb (job_at run n).cost (service_of run n t) (r.in_order n b same earlier))))))
+
+-- a test of what is pending is the definition's
+pub pending_is : (run : Run) (k t : ℕ) (b : Bool) → ((b ≡ true) ↔ IsPending run k t) → b ≡ is_pending run k t
+pending_is run k t true h = sym (pending_to run k t (h.0 refl))
+pending_is run k t false h = sym (false_from_ne_true (is_pending run k t) (λ p. true≢false (sym (h.1 (pending_from run k t p)))))
+
+-- what decides whether tick t may run job k
+
+pub idle_job : (run : Run) (k t : ℕ) → (IsPending run k t → ⊥) → may_run run k t ≡ false
+unfolding may_run
+idle_job run k t none = and_left _ _ (false_from_ne_true (is_pending run k t) (λ p. none (pending_from run k t p)))
+
+pub held_back : (run : Run) (k t n : ℕ) → n < length run.jobs → holds_back run k t n ≡ true → may_run run k t ≡ false
+unfolding may_run
+held_back run k t n b h = and_right _ _ (all_broken (λ i. not (holds_back run k t i)) (length run.jobs) n b (not_from_true (holds_back run k t n) h))
+
+pub free_to_run : (run : Run) (k t : ℕ) → IsPending run k t → ((n : ℕ) → n < length run.jobs → holds_back run k t n ≡ false) → may_run run k t ≡ true
+unfolding may_run
+free_to_run run k t waits free = and_from _ _ (pending_to run k t waits) (all_from (λ i. not (holds_back run k t i)) (length run.jobs) (λ i b. not_from_false (holds_back run k t i) (free i b)))
 
 pub valid_from : (run : Run) (t k : ℕ) → is_valid_at run t ≡ true → tick_at run t ≡ Runs k → MayRun run k t
 valid_from run t k h e = may_run_from run k t (ap (may_be_at run t) (sym e) ∙ h)

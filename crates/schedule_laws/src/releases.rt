@@ -1,10 +1,11 @@
 //! Whether a job is released as its task allows.
 ghost use Rattle.std.specs.Prelude.{◌≡◌, ◌<◌, ◌^◌, length};
 ghost use Rattle.task_sheet.specs.Sheets.{IsOf};
+ghost use Rattle.run_model.specs.Runs.{job_at};
 ghost use Rattle.schedule_laws.specs.Tests.{AreOf, is_before as is_before_by, is_timely as is_timely_by, is_overtaken as is_overtaken_by, is_release_broken};
 
 use run_model::Run;
-use task_sheet::{Job, Sheet};
+use task_sheet::Sheet;
 
 /// Whether job `n` is of the task of job `k`, and arrives before it.
 pub fn is_before(run: &Run, n: u32, k: u32) -> bool
@@ -18,11 +19,13 @@ pub fn is_before(run: &Run, n: u32, k: u32) -> bool
     other.task == job.task && other.arrival < job.arrival
 }
 
-/// Whether the job is released at its arrival or later, by its task's jitter at most.
-fn is_timely(sheet: &Sheet, job: &Job) -> bool
-    requires { IsOf sheet.now job.now }
-    ensures { result ≡ is_timely_by sheet.now job.now }
+/// Whether job `k` is released at its arrival or later, by its task's jitter at most.
+fn is_timely(sheet: &Sheet, run: &Run, k: u32) -> bool
+    requires job { k < length run.now.jobs }
+    requires task { IsOf sheet.now (job_at run.now k) }
+    ensures { result ≡ is_timely_by sheet.now (job_at run.now k) }
 {
+    let job = &run.jobs.as_slice()[k as usize];
     job.arrival <= job.release && job.release - job.arrival <= sheet.task(job.task).jitter
 }
 
@@ -44,7 +47,7 @@ pub fn release_broken(sheet: &Sheet, run: &Run, k: u32) -> bool
     requires tasks { AreOf sheet.now run.now }
     ensures { result ≡ is_release_broken sheet.now run.now k }
 {
-    if !is_timely(sheet, &run.jobs.as_slice()[k as usize]) {
+    if !is_timely(sheet, run, k) {
         return true;
     }
     for n in 0..run.jobs.len() as u32 {

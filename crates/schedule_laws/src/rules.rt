@@ -14,6 +14,7 @@ use run_model::{Run, Tick, is_pending, service};
 use task_sheet::Sheet;
 
 /// Whether tick `t` is idle and job `k` is pending there.
+#[tactic(auto, using(crate::proofs::TestFacts::pending_is), unfolding(crate::specs::Tests::is_idle_broken))]
 fn is_idle_broken(run: &Run, t: u64, k: u32) -> bool
     requires job { k < length run.now.jobs }
     requires tick { t < length run.now.ticks }
@@ -51,18 +52,18 @@ fn is_cut<M: Preemption>(sheet: &Sheet, run: &Run, t: u64, k: u32) -> bool
 }
 
 /// Whether tick `t` is supplied and does not run job `k`, which cannot be cut there.
+#[tactic(auto, unfolding(crate::specs::Tests::is_segment_broken))]
 fn is_segment_broken<M: Preemption>(sheet: &Sheet, run: &Run, t: u64, k: u32) -> bool
     requires job { k < length run.now.jobs }
     requires tick { t < length run.now.ticks }
     requires task { IsOf sheet.now (job_at run.now k) }
     ensures { result ≡ is_segment_broken_by M.cuts sheet.now run.now t k }
 {
-    let runs_other = match run.ticks.as_slice()[t as usize] {
+    match run.ticks.as_slice()[t as usize] {
         Tick::Off => false,
-        Tick::Idle => true,
-        Tick::Runs(job) => job != k,
-    };
-    runs_other && !is_cut::<M>(sheet, run, t, k)
+        Tick::Idle => !is_cut::<M>(sheet, run, t, k),
+        Tick::Runs(job) => job != k && !is_cut::<M>(sheet, run, t, k),
+    }
 }
 
 /// The least job that cannot be cut at tick `t`, which is supplied and does not run it.
@@ -93,6 +94,7 @@ fn is_as_urgent<P: Policy>(sheet: &Sheet, run: &Run, k: u32, n: u32) -> bool
 }
 
 /// Whether job `n` is pending at tick `t` and more urgent than the job that runs and can be cut.
+#[tactic(auto, using(crate::proofs::TestFacts::pending_is), unfolding(crate::specs::Tests::is_priority_broken))]
 fn is_priority_broken<P: Policy, M: Preemption>(sheet: &Sheet, run: &Run, t: u64, n: u32) -> bool
     requires job { n < length run.now.jobs }
     requires tick { t < length run.now.ticks }

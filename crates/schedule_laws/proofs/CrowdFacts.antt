@@ -4,7 +4,7 @@ use Rattle.std.proofs.lemmas.Bool.{cases_eq, and_parts, and_from, both_ways, fal
 use Rattle.std.proofs.lemmas.Bool.Decides.{nat_tests}
 use Rattle.std.proofs.Math.Seq.{take-length}
 use Rattle.lists.proofs.FirstFacts.{all_parts}
-use Rattle.lists.proofs.SearchFacts.{one_more}
+use Rattle.lists.proofs.SearchFacts.{find_below}
 use Rattle.lists.proofs.SumFacts.{count_more}
 use Rattle.curve.specs.Curves.{alpha_of}
 use Rattle.curve.proofs.CurveFacts.{alpha_mono}
@@ -45,25 +45,24 @@ arrivals_none : (run : Run) (o t : ℕ) → arrivals_of run o t (t + 0) ≡ 0
 unfolding arrivals_of
 arrivals_none run o t = omega (arith, same_count (arrives_in o t (t + 0)) (λ j. false) run (λ k c. in_none o t (job_at run k)), none_passes run)
 
--- some job of task o arrives at t, or none among the first n
-arrival_or_none : (o t : ℕ) (run : Run) (n : ℕ) → ((k : ℕ) × (k < n) × ((job_at run k).task ≡ o) × ((job_at run k).arrival ≡ t)) ⊎ ((k : ℕ) → k < n → (job_at run k).task ≡ o → (job_at run k).arrival ≡ t → ⊥)
-arrival_or_none o t run zero = inr (λ k b e i. omega arith)
-arrival_or_none o t run (suc n) = elim (arrival_or_none o t run n) [
-  | inl k ↦ inl (k.0, omega (arith, k.1), k.2, k.3)
-  | inr none ↦ elim (cases_eq (job_at run n).task o) [
-    | inr ne ↦ inr (one_more n none (λ e i. ne e))
-    | inl e ↦ elim (cases_eq (job_at run n).arrival t) [
-      | inl i ↦ inl (n, omega arith, e, i)
-      | inr ne ↦ inr (one_more n none (λ e i. ne i))
-    ]
-  ]
-]
+-- some job of task o arrives at t, or none does
+pub arrival_or_none : (run : Run) (o t : ℕ) → ((k : ℕ) × (k < length run.jobs) × ((job_at run k).task ≡ o) × ((job_at run k).arrival ≡ t)) ⊎ ((k : ℕ) → k < length run.jobs → (job_at run k).task ≡ o → (job_at run k).arrival ≡ t → ⊥)
+arrival_or_none run o t =
+    let found = find_below (λ k. (job_at run k).task ≡ o → (job_at run k).arrival ≡ t → ⊥) (λ k. ((job_at run k).task ≡ o) × ((job_at run k).arrival ≡ t)) (λ k. elim (cases_eq (job_at run k).task o) [
+      | inr ne ↦ inl (λ e i. ne e)
+      | inl e ↦ elim (cases_eq (job_at run k).arrival t) [ inl i ↦ inr (e, i) | inr ne ↦ inl (λ e i. ne i) ]
+    ]) (length run.jobs) in
+    elim found [ inl none ↦ inr none | inr k ↦ inl (k.0, k.1, k.2.0, k.2.1) ]
 
 not_at_end : (o t d : ℕ) (j : Job) → (j.task ≡ o → j.arrival ≡ t + d → ⊥) → arrives_in o t (t + suc d) j ≡ arrives_in o t (t + d) j
 not_at_end o t d j h = grind (arith, nat_tests)
 
 not_at_start : (o t u : ℕ) (j : Job) → (j.task ≡ o → j.arrival ≡ t → ⊥) → arrives_in o t u j ≡ arrives_in o (suc t) u j
 not_at_start o t u j h = grind (arith, nat_tests)
+
+-- where no job of task o arrives at t, none arrives in that tick
+pub none_arrive : (run : Run) (o t : ℕ) → ((k : ℕ) → k < length run.jobs → (job_at run k).task ≡ o → (job_at run k).arrival ≡ t → ⊥) → arrivals_of run o t (t + 1) ≡ 0
+none_arrive run o t none = omega (arith, arrivals_none run o t, same_arrivals run o t (t + suc 0) t (t + 0) (λ k c. not_at_end o t 0 (job_at run k) (λ e i. none k c e (omega arith))))
 
 window_length : (t d : ℕ) → t + suc d - t ≡ suc d
 window_length t d = omega arith
@@ -96,7 +95,7 @@ module _ (sheet : SheetParts) (ok : IsValidSheet sheet) (run : Run) where
   -- windows that begin at an arrival suffice
   begins : (k t d : ℕ) → k < length run.jobs → IsOf sheet (job_at run k) → t + d ≡ (job_at run k).arrival → ((n : ℕ) → n < length run.jobs → is_crowded_since sheet run k n ≡ false) → is_within_curve sheet run k t ≡ false → ⊥
   begins k t zero b of e free many = both_ways _ (free k b) (since_from k k t refl (omega arith) (omega arith) many)
-  begins k t (suc d) b of e free many = elim (arrival_or_none (job_at run k).task t run (length run.jobs)) [
+  begins k t (suc d) b of e free many = elim (arrival_or_none run (job_at run k).task t) [
     | inl n ↦ both_ways _ (free n.0 n.1) (since_from k n.0 t n.2 n.3 (omega arith) many)
     | inr none ↦ begins k (suc t) d b of (omega arith) free (crowded_next k t of (omega arith) none many)
   ]
@@ -116,7 +115,7 @@ module _ (sheet : SheetParts) (ok : IsValidSheet sheet) (run : Run) where
   -- windows that end with an arrival suffice
   windows : AreUncrowded sheet run → (o t d : ℕ) → o < length sheet.tasks → arrivals_of run o t (t + d) ≤ alpha_of (task_at sheet o).curve d
   windows free o t zero b = omega (arith, arrivals_none run o t)
-  windows free o t (suc d) b = elim (arrival_or_none o (t + d) run (length run.jobs)) [
+  windows free o t (suc d) b = elim (arrival_or_none run o (t + d)) [
     | inl k ↦
         let e : (job_at run k.0).arrival + 1 ≡ t + suc d = omega (arith, k.3) in
         let of_o = subst (λ w. arrivals_of run w t ((job_at run k.0).arrival + 1) ≤ alpha_of (task_at sheet w).curve ((job_at run k.0).arrival + 1 - t)) k.2 (uncrowded_window sheet run k.0 t (free k.0 k.1) (omega (arith, k.3))) in

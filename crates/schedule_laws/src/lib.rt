@@ -14,5 +14,5 @@ pub use laws::{
 };
 pub use releases::release_broken;
 pub use rules::{idle_broken, priority_broken, segment_broken};
-pub use supplied::short_at;
+pub use supplied::{is_on, short_at};
 pub use validity::{fits, valid_at};

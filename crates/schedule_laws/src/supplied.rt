@@ -7,7 +7,7 @@ use run_model::{Run, Tick};
 use supply::Supply;
 
 /// Whether the tick is supplied.
-fn is_on(tick: Tick) -> bool
+pub fn is_on(tick: Tick) -> bool
     ensures { result ≡ is_on_by tick }
 {
     match tick {

@@ -13,7 +13,7 @@ use Rattle.run_model.specs.Runs.{is_on, ticks_in}
 use Rattle.schedule_laws.specs.Compliance.{arrives_in, arrivals_of}
 use Rattle.windows.specs.Arrivals.{arrived_in, admits_in, allowance_in}
 use Rattle.windows.specs.Supplied.{AreCounts, MayBeOff}
-use Rattle.windows.proofs.PastFacts.{arrived_push}
+use Rattle.windows.proofs.ArrivalFacts.{arrived_push}
 use Rattle.windows.proofs.TickCounts.{counts_more, supplied_more, window_now}
 use Rattle.simulated_run.specs.SimulatedRun.{with_job, with_tick, admits, allowance_of, may_be_off}
 use Rattle.simulated_run.proofs.RunFacts.{arrivals_more, ticks_more, tick_new, window_kept}

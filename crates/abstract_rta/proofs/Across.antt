@@ -1,7 +1,7 @@
 -- Step "From listed points to every offset" of docs/ANALYSIS.md, one gap: what meets the conditions at its first offset meets them up to its end.
 use Rattle.std.proofs.Common.{◌≡◌, ℕ, ◌+◌, ◌-◌, ◌<◌, ◌≤◌, length, ap, arith}
 use Rattle.task_sheet.specs.SheetParts.{SheetParts}
-use Rattle.task_sheet.specs.Sheets.{IsValidSheet}
+use Rattle.task_sheet.specs.Sheets.{IsValidSheet, task_at}
 use Rattle.policy.specs.Offsets.{IsSame}
 use Rattle.policy.specs.PolicyLaws.{IsLawfulPolicy}
 use Rattle.policy.specs.PolicyMeaning.{PolicyMeaning}
@@ -16,11 +16,12 @@ module _ (p : PolicyMeaning) (m : CutMeaning) (sheet : SheetParts) (ok : IsValid
       IsSame p sheet i from (to - 1) → MeetsEnd p m sbf sheet i from x → MeetsBound p m sbf sheet i from x bound → MeetsAt p m sbf sheet i bound a x
   meets_across gap sbf rises bound from a to x h l same end within =
       let less = need_less p m sheet ok lawful i in_range from a x h (gap sheet ok i from a to in_range h l same) in
-      let e : from + bound + (a - from) ≡ a + bound = omega arith in
+      let jitter = (task_at sheet i).jitter in
+      let e : from + bound - jitter + (a - from) ≡ a + bound - jitter = omega (arith, within.end) in
       record {
         end = record { enough = omega (arith, less, end.enough) };
         within = record {
           end = omega (arith, within.end);
-          enough = omega (arith, less, within.enough, sbf_mono sbf rises (from + bound) (a - from), ap sbf e);
+          enough = omega (arith, less, within.enough, sbf_mono sbf rises (from + bound - jitter) (a - from), ap sbf e);
         };
       }

@@ -40,8 +40,8 @@ first_of_those : (first : ℕ × ℕ) (points : List (ℕ × ℕ)) (a k : ℕ) �
 first_of_those first points a zero later h l = omega arith
 first_of_those first points a (suc k) later h l = absurd (omega (arith, later k (omega arith)))
 
-still_greatest : (first : ℕ × ℕ) (points : List (ℕ × ℕ)) (a top k : ℕ) → first.0 ≤ top → ((n : ℕ) → n < length points → (point_at points n).0 ≤ a → (point_at points n).0 ≤ top) →
-    k < suc (length points) → (point_at (first ∷ points) k).0 ≤ a → (point_at (first ∷ points) k).0 ≤ top
+still_greatest : (first : ℕ × ℕ) (points : List (ℕ × ℕ)) (a top k : ℕ) → first.0 ≤ top →
+    ((n : ℕ) → n < length points → (point_at points n).0 ≤ a → (point_at points n).0 ≤ top) → k < suc (length points) → (point_at (first ∷ points) k).0 ≤ a → (point_at (first ∷ points) k).0 ≤ top
 still_greatest first points a top zero h greatest b l = h
 still_greatest first points a top (suc k) h greatest b l = greatest k (omega arith) l
 

@@ -1,5 +1,6 @@
 -- Step "What runs outside" of docs/ANALYSIS.md, its end: by the laws of busy stretches, the supply of a stretch serves the set, but for one segment's rest.
-use Rattle.std.proofs.Common.{◌≡◌, ℕ, zero, suc, ◌+◌, ◌-◌, ◌<◌, ◌≤◌, ◌⊎◌, ◌==◌, ◌&&◌, ◌||◌, Bool, true, false, cond, List, [], ◌∷◌, length, refl, sym, ◌∙◌, ap, subst, inl, inr, arith, add-suc, eq-eqb}
+use Rattle.std.proofs.Common.{◌≡◌, ℕ, zero, suc, ◌+◌, ◌-◌, ◌<◌, ◌≤◌, ◌⊎◌, ◌==◌, ◌&&◌, ◌||◌, Bool, true, false, cond}
+use Rattle.std.proofs.Common.{List, [], ◌∷◌, length, refl, sym, ◌∙◌, ap, subst, inl, inr, arith, add-suc, eq-eqb}
 use Rattle.std.proofs.lemmas.Bool.{cases_lt, cases_Bool, not-true, eqb-true, and_parts, and_from, or_cases, or_left, or_right}
 use Rattle.lists.proofs.SumFacts.{cond_mono, sum_le, sum_gap}
 use Rattle.run_model.specs.declared.run.Tick.{Tick}
@@ -52,14 +53,14 @@ job_outside set Off h = absurd (cc)
 job_outside set Idle h = absurd (cc)
 job_outside set (Runs k) h = (k, refl, not-true (set k) h)
 
--- a segment of a job outside the set that arrived before s blocks for at most so many ticks
+-- a segment of a job outside the set that was released before s blocks for at most so many ticks
 abbrev pub BlockAtMost : Setting → (ℕ → Bool) → ℕ → ℕ → Type 0
-BlockAtMost g set s most = (k : ℕ) → k < length g.run.jobs → set k ≡ false → (job_at g.run k).arrival < s → segment_of g k - 1 ≤ most
+BlockAtMost g set s most = (k : ℕ) → k < length g.run.jobs → set k ≡ false → (job_at g.run k).release < s → segment_of g k - 1 ≤ most
 
--- what runs of the set in a busy stretch arrived in it
+-- what runs of the set in a busy stretch was released in it
 pub inside_since : (g : Setting) (set : ℕ → Bool) (s u : ℕ) → IsBusy g.run set s u →
-    (v k : ℕ) → s ≤ v → v < u → tick_at g.run v ≡ Runs k → set k ≡ true → s ≤ (job_at g.run k).arrival
-inside_since g set s u stretch v k a b r i = elim (cases_lt (job_at g.run k).arrival s) [
+    (v k : ℕ) → s ≤ v → v < u → tick_at g.run v ≡ Runs k → set k ≡ true → s ≤ (job_at g.run k).release
+inside_since g set s u stretch v k a b r i = elim (cases_lt (job_at g.run k).release s) [
   | inr after ↦ after
   | inl before ↦
       let p = ran g v k (omega (arith, stretch.long)) r in

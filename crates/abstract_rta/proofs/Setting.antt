@@ -2,9 +2,9 @@
 use Rattle.std.proofs.Common.{◌≡◌, ℕ, ◌<◌, Bool, true, cond, length}
 use Rattle.lists.specs.Sums.{sum_below}
 use Rattle.task_sheet.specs.SheetParts.{SheetParts}
-use Rattle.task_sheet.specs.Sheets.{IsValidSheet, task_at}
+use Rattle.task_sheet.specs.Sheets.{IsValidSheet, task_at, IsOf, IsTimely}
 use Rattle.policy.specs.PolicyMeaning.{PolicyMeaning}
-use Rattle.policy.specs.PolicyLaws.{IsOf, IsLawfulPolicy}
+use Rattle.policy.specs.PolicyLaws.{IsLawfulPolicy}
 use Rattle.preemption.specs.CutMeaning.{CutMeaning}
 use Rattle.preemption.specs.CutLaws.{IsLawfulCut, Serves}
 use Rattle.run_model.specs.declared.run.Run.{Run}
@@ -48,8 +48,15 @@ module _ (g : Setting) where
   pub of_sheet : (k : ℕ) → k < length g.run.jobs → IsOf g.sheet (job_at g.run k)
   of_sheet k h = (g.ok.valid.jobs k h).task
 
+  pub timely : (k : ℕ) → k < length g.run.jobs → IsTimely g.sheet (job_at g.run k)
+  timely k h = (g.ok.valid.releases k h).timely
+
   pub fit_of : (k : ℕ) → k < length g.run.jobs → g.m.fits (task_at g.sheet (job_at g.run k).task) (job_at g.run k) ≡ true
   fit_of k h = (g.ok.valid.jobs k h).fit
+
+-- the jitter of task o
+abbrev pub jitter_of : Setting → ℕ → ℕ
+jitter_of g o = (task_at g.sheet o).jitter
 
 -- the longest segment of the task of job k
 abbrev pub segment_of : Setting → ℕ → ℕ

@@ -5,17 +5,17 @@ use Rattle.policy.specs.PolicyMeaning.{PolicyMeaning}
 use Rattle.preemption.specs.CutMeaning.{CutMeaning}
 use Rattle.preemption.specs.CutLaws.{Serves}
 use Rattle.schedule_laws.specs.Bounded.{IsBounded}
-use Rattle.demand.specs.Meeting.{IsWindow, MeetsAt, PointsMeet}
+use Rattle.demand.specs.Meeting.{CoversJitter, IsWindow, MeetsAt, PointsMeet}
 
 -- the ends, one for each offset of the window, meet K6 to K8 there
 abbrev pub EndsMeet : PolicyMeaning → CutMeaning → (ℕ → ℕ) → SheetParts → ℕ → ℕ → ℕ → List ℕ → Type 0
 EndsMeet p m sbf sheet i window bound ends = (a : ℕ) → a < window → MeetsAt p m sbf sheet i bound a (slice_index_or ends a 0)
 
--- where a window and an end for each of its offsets meet the conditions, the bound holds in every compliant run
+-- where a bound, a window and an end for each of its offsets meet the conditions, the bound holds in every compliant run
 abbrev pub Bound : PolicyMeaning → CutMeaning → (ℕ → ℕ) → Type 0
 Bound p m sbf =
     (sheet : SheetParts) → IsValidSheet sheet → Serves m sheet → (i window bound : ℕ) (ends : List ℕ) → i < length sheet.tasks →
-    IsWindow p m sbf sheet i window → EndsMeet p m sbf sheet i window bound ends → IsBounded p m sbf sheet i bound
+    CoversJitter sheet i bound → IsWindow p m sbf sheet i window → EndsMeet p m sbf sheet i window bound ends → IsBounded p m sbf sheet i bound
 
 -- the offset and the end of point k
 abbrev pub point_at : List (ℕ × ℕ) → ℕ → ℕ × ℕ
@@ -42,8 +42,8 @@ FromPoints p m sbf =
     (sheet : SheetParts) → IsValidSheet sheet → Serves m sheet → (i window bound : ℕ) (points : List (ℕ × ℕ)) → i < length sheet.tasks →
     1 ≤ length points → PointsMeet p m sbf sheet i window bound None points → HasEnds p m sbf sheet i window bound points
 
--- where a window and the listed points meet the conditions, the bound holds in every compliant run
+-- where a bound, a window and the listed points meet the conditions, the bound holds in every compliant run
 abbrev pub PointsBound : PolicyMeaning → CutMeaning → (ℕ → ℕ) → Type 0
 PointsBound p m sbf =
     (sheet : SheetParts) → IsValidSheet sheet → Serves m sheet → (i window bound : ℕ) (points : List (ℕ × ℕ)) → i < length sheet.tasks →
-    IsWindow p m sbf sheet i window → 1 ≤ length points → PointsMeet p m sbf sheet i window bound None points → IsBounded p m sbf sheet i bound
+    CoversJitter sheet i bound → IsWindow p m sbf sheet i window → 1 ≤ length points → PointsMeet p m sbf sheet i window bound None points → IsBounded p m sbf sheet i bound

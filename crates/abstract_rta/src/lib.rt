@@ -13,9 +13,9 @@ use schedule_laws::served_within_cost;
 use search_space::across_gap;
 use supply::Supply;
 
-/// Where K3 holds for a window, and K6 to K8 at each offset below it for an end of a list, every
-/// compliant run completes each job of the task by its arrival plus the bound, where that lies within
-/// the run.
+/// Where K2 holds for a bound and K3 for a window, and K6 to K8 at each offset below it for an end of a
+/// list, every compliant run completes each job of the task by its arrival plus the bound, where that
+/// lies within the run.
 pub fn bound<P: Policy, M: Preemption, S: Supply>()
     ensures { (supply : S) → Bound P.meaning M.cuts (S.sbf supply) }
 {
@@ -32,8 +32,9 @@ pub fn from_points<P: Policy, M: Preemption, S: Supply>()
     across_gap::<P>();
 }
 
-/// Where K3 holds for a window and K4 to K8 for at least one listed point, every compliant run
-/// completes each job of the task by its arrival plus the bound, where that lies within the run.
+/// Where K2 holds for a bound, K3 for a window and K4 to K8 for at least one listed point, every
+/// compliant run completes each job of the task by its arrival plus the bound, where that lies within
+/// the run.
 pub fn points_bound<P: Policy, M: Preemption, S: Supply>()
     ensures { (supply : S) → S.is_supply supply → PointsBound P.meaning M.cuts (S.sbf supply) }
 {

@@ -2,18 +2,17 @@
 use Rattle.std.proofs.Common.{◌≡◌, ℕ, zero, suc, ◌+◌, ◌-◌, ◌<◌, ◌≤◌, ◌≢◌, Bool, true, false, length, sym, ◌∙◌, ap, subst, inl, inr, arith, add-suc, add-zero}
 use Rattle.std.proofs.lemmas.Bool.{cases_lt, cases_Bool}
 use Rattle.lists.proofs.SearchFacts.{last_up_to}
-use Rattle.task_sheet.specs.Sheets.{task_at}
-use Rattle.policy.specs.PolicyLaws.{IsOf}
+use Rattle.task_sheet.specs.Sheets.{task_at, IsOf}
 use Rattle.run_model.specs.declared.run.Tick.TheVariants.{Runs}
 use Rattle.run_model.specs.Runs.{job_at, tick_at, service_of, IsPending}
 use Rattle.run_model.proofs.ServiceFacts.{same_job, not_off, step_cases, service_split}
 use Rattle.schedule_laws.specs.Compliance.{can_cut}
-use Rattle.schedule_laws.specs.Prefixes.{ServedWithinCost, ServedSinceArrival}
+use Rattle.schedule_laws.specs.Prefixes.{ServedWithinCost, ServedSinceRelease}
 use Rattle.busy_window.specs.Busy.{IsBusy, EachRunsInside, EachIsOutsider}
 use Rattle.busy_window.proofs.Setting.{Setting}
 
 -- a busy stretch [s, u), of which the law on its supplied ticks is known, in a run whose prefixes keep theirs
-module _ (g : Setting) (within_cost : ServedWithinCost g.m) (since_arrival : ServedSinceArrival g.m)
+module _ (g : Setting) (within_cost : ServedWithinCost g.m) (since_release : ServedSinceRelease g.m)
     (begun : (k t : ℕ) → k < length g.run.jobs → can_cut g.m g.sheet g.run k t ≡ false → 0 < service_of g.run k t)
     (set : ℕ → Bool) (s u : ℕ) (stretch : IsBusy g.run set s u) (inside : EachRunsInside g.m g.sheet g.run set s u) where
   -- the longest segment of the task of job k
@@ -82,10 +81,10 @@ module _ (g : Setting) (within_cost : ServedWithinCost g.m) (since_arrival : Ser
             omega (arith, r.more, ih, ne)
       ])
 
-  arrives_early : (v k : ℕ) → s ≤ v → v < u → tick_at g.run v ≡ Runs k → set k ≡ false → (job_at g.run k).arrival < s
-  arrives_early v k a b r o =
+  released_early : (v k : ℕ) → s ≤ v → v < u → tick_at g.run v ≡ Runs k → set k ≡ false → (job_at g.run k).release < s
+  released_early v k a b r o =
       let service = begun k s (running v k b r).listed (uncut_from s v k (omega arith) a b o r) in
-      since_arrival g.sheet g.run g.ok.valid k s (omega (arith, stretch.long)) service
+      since_release g.sheet g.run g.ok.valid k s (omega (arith, stretch.long)) service
 
   -- the place of the last cut before the stretch, and of the next one
   ends_soon : (v k : ℕ) → s ≤ v → v < u → tick_at g.run v ≡ Runs k → set k ≡ false → suc (service_of g.run k u) ≤ service_of g.run k s + segment_of k
@@ -111,7 +110,7 @@ module _ (g : Setting) (within_cost : ServedWithinCost g.m) (since_arrival : Ser
       let e : s + (u - s) ≡ u = omega arith in
       let split = service_split g.run k s (u - s) (omega (arith, stretch.long)) in
       record {
-        early = arrives_early t k a b r o;
+        early = released_early t k a b r o;
         short = omega (arith, ends_soon t k a b r o, split, ap (service_of g.run k) e);
         only = λ v n c d q i. only_one t v k n a c b d r q o i;
       }

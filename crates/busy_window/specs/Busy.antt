@@ -20,9 +20,9 @@ IsUpSet p sheet run set =
     (k n : ℕ) → k < length run.jobs → n < length run.jobs →
     key_le (p.key sheet (job_at run k)) (p.key sheet (job_at run n)) ≡ true → set n ≡ true → set k ≡ true
 
--- each job of the set that arrived before tick t is done at t
+-- each job of the set that was released before tick t is done at t
 abbrev pub IsQuiet : Run → (ℕ → Bool) → ℕ → Type 0
-IsQuiet run set t = (k : ℕ) → k < length run.jobs → set k ≡ true → (job_at run k).arrival < t → IsDone run k t
+IsQuiet run set t = (k : ℕ) → k < length run.jobs → set k ≡ true → (job_at run k).release < t → IsDone run k t
 
 -- some job of the set is pending at tick t
 pub record HasPending (run : Run) (set : ℕ → Bool) (t : ℕ) : Type 0 where
@@ -73,9 +73,9 @@ EachRunsInside m sheet run set s u =
 abbrev pub RunsInside : PolicyMeaning → CutMeaning → (ℕ → ℕ) → Type 0
 RunsInside p m sbf = InBusy p m sbf (EachRunsInside m)
 
--- job k arrived before [s, u), runs in fewer of its ticks than a segment is long, and is the one job outside the set that runs in it
+-- job k was released before [s, u), runs in fewer of its ticks than a segment is long, and is the one job outside the set that runs in it
 pub record IsOutsider (m : CutMeaning) (sheet : SheetParts) (run : Run) (set : ℕ → Bool) (s u k : ℕ) : Type 0 where
-  pub early : (job_at run k).arrival < s
+  pub early : (job_at run k).release < s
   pub short : ticks_in (runs k) run s (u - s) + 1 ≤ m.longest (task_at sheet (job_at run k).task)
   pub only : (t n : ℕ) → s ≤ t → t < u → tick_at run t ≡ Runs n → set n ≡ false → n ≡ k
 

@@ -21,25 +21,27 @@ cap_window Nothing jitter x = 0
 cap_window (At c) jitter x = min (x + jitter) (not_below_zero c)
 cap_window All jitter x = x + jitter
 
-admitted_number : (c : ℤ) (start jitter arrival x : ℕ) → pos (arrival + jitter) <ℤ (pos start +ℤ c) → start ≤ arrival + jitter → arrival < start + x →
-    arrival < start - jitter + min (x + jitter) (not_below_zero c)
+admitted_number : (c : ℤ) (start jitter arrival x : ℕ) → pos (arrival + jitter) <ℤ (pos start +ℤ c) →
+    start ≤ arrival + jitter → arrival < start + x → arrival < start - jitter + min (x + jitter) (not_below_zero c)
 admitted_number (pos c) start jitter arrival x h l b = omega (arith, ints)
 admitted_number (negsuc c) start jitter arrival x h l b = omega (arith, ints)
 
 -- what the cap admits of the jobs that arrive before the x ticks end arrives in that window
-pub admitted : (c : Cap) (start jitter arrival x : ℕ) → Admits c start (arrival + jitter) → start ≤ arrival + jitter → arrival < start + x →
-    arrival < start - jitter + cap_window c jitter x
+pub admitted : (c : Cap) (start jitter arrival x : ℕ) → Admits c start (arrival + jitter) →
+    start ≤ arrival + jitter → arrival < start + x → arrival < start - jitter + cap_window c jitter x
 admitted Nothing start jitter arrival x h l b = absurd h
 admitted (At c) start jitter arrival x h l b = admitted_number c start jitter arrival x h l b
 admitted All start jitter arrival x h l b = omega arith
 
-count_within : (curve : Curve) → IsCurve curve → (jitter : ℕ) (c : Cap) (x : ℕ) → alpha_of curve (cap_window c jitter x) ≤ capped_count curve jitter c x
+count_within : (curve : Curve) → IsCurve curve → (jitter : ℕ) (c : Cap) (x : ℕ) →
+    alpha_of curve (cap_window c jitter x) ≤ capped_count curve jitter c x
 count_within curve ok jitter Nothing x = omega (arith, alpha_zero curve ok)
 count_within curve ok jitter (At c) x = omega arith
 count_within curve ok jitter All x = omega arith
 
 -- the demand of one task in a window that another has, or has not
-pub windowed : (b : Bool) (curve : Curve) → IsCurve curve → (c l : ℕ) → c * alpha_of curve (cond b l 0) ≤ cond b (c * alpha_of curve l) 0
+pub windowed : (b : Bool) (curve : Curve) → IsCurve curve → (c l : ℕ) →
+    c * alpha_of curve (cond b l 0) ≤ cond b (c * alpha_of curve l) 0
 windowed true curve ok c l = omega arith
 windowed false curve ok c l = omega (arith, ap (λ (w : ℕ). c * w) (alpha_zero curve ok))
 

@@ -1,5 +1,7 @@
--- Step "The offset lies in the window" of docs/ANALYSIS.md: a job is released less than a window after the last quiet tick of its class.
-use Rattle.std.proofs.Common.{◌≡◌, ℕ, suc, ◌+◌, ◌-◌, ◌<◌, ◌≤◌, ◌==◌, ◌&&◌, Bool, true, false, cond, not, length, ap, inl, inr, arith}
+-- Step "The offset lies in the window" of docs/ANALYSIS.md:
+-- a job is released less than a window after the last quiet tick of its class.
+use Rattle.std.proofs.Common.{◌≡◌, ℕ, suc, ◌+◌, ◌-◌, ◌<◌, ◌≤◌, ◌==◌, ◌&&◌, Bool, true, false, cond, not}
+use Rattle.std.proofs.Common.{length, ap, inl, inr, arith}
 use Rattle.std.proofs.lemmas.Bool.{cases_lt, and_from, ne_eqb}
 use Rattle.lists.specs.Sums.{sum_below, max_below}
 use Rattle.lists.proofs.SumFacts.{sum_le}
@@ -34,23 +36,30 @@ class_delay g i = max_below (delay_of g.p g.m g.sheet i) (length g.sheet.tasks)
 module _ (g : Setting) (i : ℕ) (in_range : i < length g.sheet.tasks) where
   pub class_up : IsUpSet g.p g.sheet g.run (of_class g i)
   unfolding of_class
-  class_up = λ k n b c h e. g.laws.policy.class_closed i (job_at g.run k) (job_at g.run n) in_range (of_sheet g k b) (of_sheet g n c) h e
+  class_up = λ k n b c h e.
+      g.laws.policy.class_closed i (job_at g.run k) (job_at g.run n) in_range (of_sheet g k b) (of_sheet g n c) h e
 
   within_class : (l : ℕ) → windows_demand g (class_window g i l) ≤ class_demand g i l
   unfolding class_window
-  within_class l = sum_le _ _ (length g.sheet.tasks) (λ o b. windowed (g.p.class g.sheet i o) (task_at g.sheet o).curve (g.laws.valid.each o b).curve (task_at g.sheet o).cost (l + jitter_of g o))
+  within_class l = sum_le _ _ (length g.sheet.tasks) (λ o b.
+      let task = task_at g.sheet o in
+      windowed (g.p.class g.sheet i o) task.curve (g.laws.valid.each o b).curve task.cost (l + jitter_of g o))
 
   delay_bound : (k : ℕ) → k < length g.run.jobs → of_class g i k ≡ false → segment_of g k - 1 ≤ class_delay g i
   unfolding of_class
   delay_bound k b o =
       let task = (job_at g.run k).task in
-      let other : task ≡ i → ⊥ = λ e. let f = ap (g.p.class g.sheet i) e in let t = g.laws.policy.own_class i in_range in absurd (cc) in
-      most_at (λ o. not (o == i) && g.p.may_delay g.sheet i o) (λ o. g.m.longest (task_at g.sheet o) - 1) (length g.sheet.tasks) task (of_sheet g k b)
+      let other : task ≡ i → ⊥ = λ e.
+      let f = ap (g.p.class g.sheet i) e in
+      let t = g.laws.policy.own_class i in_range in
+      absurd (cc) in
+      let may : ℕ → Bool = λ o. not (o == i) && g.p.may_delay g.sheet i o in
+      most_at may (λ o. g.m.longest (task_at g.sheet o) - 1) (length g.sheet.tasks) task (of_sheet g k b)
       (and_from _ _ (ap not (ne_eqb task i other)) (g.laws.policy.outside_delays i task in_range (of_sheet g k b) o))
 
   -- since a quiet tick of the class after which none is quiet, fewer ticks have passed than the window has
-  pub class_short : (l s a : ℕ) → IsWindow g.p g.m g.sbf g.sheet i l → s ≤ a → a ≤ length g.run.ticks → IsQuiet g.run (of_class g i) s →
-      ((u : ℕ) → s < u → u ≤ a → IsLate g.run (of_class g i) u) → a < s + l
+  pub class_short : (l s a : ℕ) → IsWindow g.p g.m g.sbf g.sheet i l → s ≤ a → a ≤ length g.run.ticks →
+      IsQuiet g.run (of_class g i) s → ((u : ℕ) → s < u → u ≤ a → IsLate g.run (of_class g i) u) → a < s + l
   unfolding of_class class_window window_need_of
   class_short l s a window h long quiet late = elim (cases_lt a (s + l)) [
     | inl below ↦ below
@@ -70,7 +79,8 @@ module _ (g : Setting) (i : ℕ) (in_range : i < length g.sheet.tasks) where
         λ v k b c r inside.
         let from = inside_since g (of_class g i) s (s + l) stretch v k b c r inside in
         let p = ran g v k (omega arith) r in
-        window_from g (class_window g i l) s k p.listed from (omega (arith, p.released, (timely g k p.listed).after, ap (window_if k) inside)) in
+        window_from g (class_window g i l) s k p.listed from
+        (omega (arith, p.released, (timely g k p.listed).after, ap (window_if k) inside)) in
         let enough : g.sbf (s + l - s) ≤ class_delay g i + served g chosen (s + l) =
         supply_served g (of_class g i) s (s + l) class_up stretch chosen is_chosen _ (λ k b o n. delay_bound k b o) in
         let cut = g.laws.cut (job_at g.run last.job).task (of_sheet g last.job last.listed) in

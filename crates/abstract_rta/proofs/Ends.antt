@@ -1,5 +1,7 @@
--- Step "From listed points to every offset" of docs/ANALYSIS.md, the list: the end of the greatest listed offset up to an offset serves there.
-use Rattle.std.proofs.Common.{◌≡◌, ℕ, zero, suc, ◌+◌, ◌-◌, ◌<◌, ◌≤◌, Some, None, List, [], ◌∷◌, cond, nat_le, length, get_or, refl, inl, inr, arith}
+-- Step "From listed points to every offset" of docs/ANALYSIS.md, the list:
+-- the end of the greatest listed offset up to an offset serves there.
+use Rattle.std.proofs.Common.{◌≡◌, ℕ, zero, suc, ◌+◌, ◌-◌, ◌<◌, ◌≤◌, Some, None, List, [], ◌∷◌, cond}
+use Rattle.std.proofs.Common.{nat_le, length, get_or, refl, inl, inr, arith}
 use Rattle.std.proofs.lemmas.Bool.{cases_lt, le-leb, lt-leb}
 use Rattle.task_sheet.specs.SheetParts.{SheetParts}
 use Rattle.task_sheet.specs.Sheets.{IsValidSheet}
@@ -41,13 +43,15 @@ first_of_those first points a zero later h l = omega arith
 first_of_those first points a (suc k) later h l = absurd (omega (arith, later k (omega arith)))
 
 still_greatest : (first : ℕ × ℕ) (points : List (ℕ × ℕ)) (a top k : ℕ) → first.0 ≤ top →
-    ((n : ℕ) → n < length points → (point_at points n).0 ≤ a → (point_at points n).0 ≤ top) → k < suc (length points) → (point_at (first ∷ points) k).0 ≤ a → (point_at (first ∷ points) k).0 ≤ top
+    ((n : ℕ) → n < length points → (point_at points n).0 ≤ a → (point_at points n).0 ≤ top) →
+    k < suc (length points) → (point_at (first ∷ points) k).0 ≤ a → (point_at (first ∷ points) k).0 ≤ top
 still_greatest first points a top zero h greatest b l = h
 still_greatest first points a top (suc k) h greatest b l = greatest k (omega arith) l
 
 module _ (p : PolicyMeaning) (m : CutMeaning) (sbf : ℕ → ℕ) (sheet : SheetParts) (i window bound : ℕ) where
   -- the points that follow an offset lie after it
-  after : (points : List (ℕ × ℕ)) (before : ℕ) → PointsMeet p m sbf sheet i window bound (Some before) points → (k : ℕ) → k < length points → before < (point_at points k).0
+  after : (points : List (ℕ × ℕ)) (before : ℕ) → PointsMeet p m sbf sheet i window bound (Some before) points →
+      (k : ℕ) → k < length points → before < (point_at points k).0
   after [] before meet k h = absurd (omega arith)
   after (q ∷ qs) before meet zero h = meet.0.next
   after (q ∷ qs) before meet (suc k) h = omega (arith, meet.0.next, after qs q.0 meet.1 k (omega arith))
@@ -57,9 +61,10 @@ module _ (p : PolicyMeaning) (m : CutMeaning) (sbf : ℕ → ℕ) (sheet : Sheet
   from_first points first meet zero h = omega arith
   from_first points first meet (suc k) h = omega (arith, after points first.0 meet k (omega arith))
 
-  chosen : (points : List (ℕ × ℕ)) (first : ℕ × ℕ) (a : ℕ) → PointsMeet p m sbf sheet i window bound (Some first.0) points → first.0 ≤ a →
-      IsEndFor (first ∷ points) a (end_for first.1 points a)
-  chosen [] first a meet h = record { point = 0; listed = omega arith; reached = h; greatest = λ k b l. only_one first k b; end = refl }
+  chosen : (points : List (ℕ × ℕ)) (first : ℕ × ℕ) (a : ℕ) →
+      PointsMeet p m sbf sheet i window bound (Some first.0) points → first.0 ≤ a → IsEndFor (first ∷ points) a (end_for first.1 points a)
+  chosen [] first a meet h =
+      record { point = 0; listed = omega arith; reached = h; greatest = λ k b l. only_one first k b; end = refl }
   chosen (q ∷ qs) first a meet h = elim (cases_lt a q.0) [
     | inl before ↦
         rw (lt-leb q.0 a before) (record {
@@ -71,7 +76,8 @@ module _ (p : PolicyMeaning) (m : CutMeaning) (sbf : ℕ → ℕ) (sheet : Sheet
         })
     | inr reached ↦
         let rest = chosen qs q a meet.1 reached in
-        let later : first.0 ≤ (point_at (q ∷ qs) rest.point).0 = omega (arith, meet.0.next, rest.greatest 0 (omega arith) reached) in
+        let later : first.0 ≤ (point_at (q ∷ qs) rest.point).0 =
+        omega (arith, meet.0.next, rest.greatest 0 (omega arith) reached) in
         rw (le-leb q.0 a reached) (record {
           point = suc rest.point;
           listed = omega (arith, rest.listed);

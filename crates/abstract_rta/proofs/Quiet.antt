@@ -33,10 +33,12 @@ module _ (run : Run) (set : ℕ → Bool) where
   ]
 
   quiet_or_late : (t : ℕ) → IsQuiet run set t ⊎ IsLate run set t
-  quiet_or_late t = elim (find_below (λ k. set k ≡ true → (job_at run k).release < t → IsDone run k t) (IsLateJob run set t) (in_time_or_late t) (length run.jobs)) [
-    | inl all ↦ inl all
-    | inr late ↦ inr (record { job = late.0; listed = late.1; is = late.2 })
-  ]
+  quiet_or_late t =
+      let in_time : ℕ → Type 0 = λ k. set k ≡ true → (job_at run k).release < t → IsDone run k t in
+      elim (find_below in_time (IsLateJob run set t) (in_time_or_late t) (length run.jobs)) [
+        | inl all ↦ inl all
+        | inr late ↦ inr (record { job = late.0; listed = late.1; is = late.2 })
+      ]
 
   -- the last quiet tick up to a
   pub last_quiet : (a : ℕ) → (s : ℕ) × (s ≤ a) × IsQuiet run set s × ((u : ℕ) → s < u → u ≤ a → IsLate run set u)
@@ -55,8 +57,11 @@ module _ (run : Run) (set : ℕ → Bool) where
   }
 
   -- who is late was released since the last quiet tick
-  pub late_since : (s u : ℕ) → s ≤ u → u ≤ length run.ticks → IsQuiet run set s → (late : IsLate run set u) → s ≤ (job_at run late.job).release
+  pub late_since : (s u : ℕ) → s ≤ u → u ≤ length run.ticks → IsQuiet run set s →
+      (late : IsLate run set u) → s ≤ (job_at run late.job).release
   late_since s u h l quiet late = elim (cases_lt (job_at run late.job).release s) [
     | inr after ↦ after
-    | inl before ↦ absurd (omega (arith, quiet late.job late.listed late.is.inside before, late.is.not_done, service_le run late.job s u h l))
+    | inl before ↦
+        let done = quiet late.job late.listed late.is.inside before in
+        absurd (omega (arith, done, late.is.not_done, service_le run late.job s u h l))
   ]

@@ -1,6 +1,8 @@
--- What all steps of docs/ANALYSIS.md up to "Completion" share: a compliant run of a valid sheet, and the laws that the bound rests on.
-use Rattle.std.proofs.Common.{◌≡◌, ℕ, ◌<◌, Bool, true, cond, length}
+-- What all steps of docs/ANALYSIS.md up to "Completion" share:
+-- a compliant run of a valid sheet, and the laws that the bound rests on.
+use Rattle.std.proofs.Common.{◌≡◌, ℕ, ◌*◌, ◌<◌, Bool, true, cond, length}
 use Rattle.lists.specs.Sums.{sum_below}
+use Rattle.curve.specs.Curves.{alpha_of}
 use Rattle.task_sheet.specs.SheetParts.{SheetParts}
 use Rattle.task_sheet.specs.Sheets.{IsValidSheet, task_at, IsOf, IsTimely}
 use Rattle.policy.specs.PolicyMeaning.{PolicyMeaning}
@@ -57,6 +59,10 @@ module _ (g : Setting) where
 -- the jitter of task o
 abbrev pub jitter_of : Setting → ℕ → ℕ
 jitter_of g o = (task_at g.sheet o).jitter
+
+-- what the jobs of task o ask for that arrive within w ticks, at most
+abbrev pub demand_in : Setting → ℕ → ℕ → ℕ
+demand_in g o w = (task_at g.sheet o).cost * alpha_of (task_at g.sheet o).curve w
 
 -- the longest segment of the task of job k
 abbrev pub segment_of : Setting → ℕ → ℕ

@@ -7,6 +7,7 @@
 ghost use Rattle.abstract_rta.specs.Bounds.{Bound, FromPoints, PointsBound};
 
 use busy_window::{enough_inside, one_outsider};
+use demand::need_falls;
 use policy::Policy;
 use preemption::Preemption;
 use schedule_laws::served_within_cost;
@@ -30,6 +31,7 @@ pub fn from_points<P: Policy, M: Preemption, S: Supply>()
     ensures { (supply : S) → S.is_supply supply → FromPoints P.meaning M.cuts (S.sbf supply) }
 {
     across_gap::<P>();
+    need_falls::<P, M>();
 }
 
 /// Where K2 holds for a bound, K3 for a window and K4 to K8 for at least one listed point, every

@@ -51,5 +51,6 @@ masked true curve ok cost own jitter x c = omega arith
 masked false curve ok cost own jitter x c = mul-le-mul_left cost (count_within curve ok jitter c x)
 
 -- the greatest number of those that pass is at least each of them
-pub most_at : (test : ℕ → Bool) (f : ℕ → ℕ) (n o : ℕ) → o < n → test o ≡ true → f o ≤ max_below (λ o. cond (test o) (f o) 0) n
+pub most_at : (test : ℕ → Bool) (f : ℕ → ℕ) (n o : ℕ) → o < n → test o ≡ true →
+    f o ≤ max_below (λ o. cond (test o) (f o) 0) n
 most_at test f n o b t = omega (arith, max_at_least (λ o. cond (test o) (f o) 0) n o b, ap (λ (b : Bool). cond b (f o) 0) t)

@@ -1,7 +1,7 @@
 -- Step "From listed points to every offset" of docs/ANALYSIS.md, the list:
 -- the end of the greatest listed offset up to an offset serves there.
-use Rattle.std.proofs.Common.{◌≡◌, ℕ, zero, suc, ◌+◌, ◌-◌, ◌<◌, ◌≤◌, Some, None, List, [], ◌∷◌, cond}
-use Rattle.std.proofs.Common.{nat_le, length, get_or, refl, inl, inr, arith}
+use Rattle.std.proofs.Common.{◌≡◌, ℕ, zero, suc, ◌+◌, ◌-◌, ◌<◌, ◌≤◌, Some, None, List, [], ◌∷◌}
+use Rattle.std.proofs.Common.{length, get_or, refl, inl, inr, arith}
 use Rattle.std.proofs.lemmas.Bool.{cases_lt, le-leb, lt-leb}
 use Rattle.task_sheet.specs.SheetParts.{SheetParts}
 use Rattle.task_sheet.specs.Sheets.{IsValidSheet}
@@ -33,7 +33,8 @@ only_one : (first : ℕ × ℕ) (k : ℕ) → k < 1 → (point_at (first ∷ [])
 only_one first zero h = omega arith
 only_one first (suc k) h = absurd (omega arith)
 
-first_of_those : (first : ℕ × ℕ) (points : List (ℕ × ℕ)) (a k : ℕ) → ((n : ℕ) → n < length points → a < (point_at points n).0) →
+first_of_those : (first : ℕ × ℕ) (points : List (ℕ × ℕ)) (a k : ℕ) →
+    ((n : ℕ) → n < length points → a < (point_at points n).0) →
     k < suc (length points) → (point_at (first ∷ points) k).0 ≤ a → (point_at (first ∷ points) k).0 ≤ first.0
 first_of_those first points a zero later h l = omega arith
 first_of_those first points a (suc k) later h l = absurd (omega (arith, later k (omega arith)))
@@ -58,7 +59,8 @@ module _ (p : PolicyMeaning) (m : CutMeaning) (sbf : ℕ → ℕ) (sheet : Sheet
   from_first points first meet (suc k) h = omega (arith, after points first.0 meet k (omega arith))
 
   chosen : (points : List (ℕ × ℕ)) (first : ℕ × ℕ) (a : ℕ) →
-      PointsMeet p m sbf sheet i window bound (Some first.0) points → first.0 ≤ a → IsEndFor (first ∷ points) a (end_for first.1 points a)
+      PointsMeet p m sbf sheet i window bound (Some first.0) points → first.0 ≤ a →
+      IsEndFor (first ∷ points) a (end_for first.1 points a)
   chosen [] first a meet h =
       record { point = 0; listed = omega arith; reached = h; greatest = λ k b l. only_one first k b; end = refl }
   chosen (q ∷ qs) first a meet h = elim (cases_lt a q.0) [
@@ -100,5 +102,6 @@ module _ (p : PolicyMeaning) (m : CutMeaning) (sbf : ℕ → ℕ) (sheet : Sheet
           ends = listed end window;
           count = listed_length end window;
           chosen = λ a l. rw (listed_at end window a l) (chosen points first a meet.1 (omega (arith, starts)));
-          meets = λ a l. rw (listed_at end window a l) (end_serves p m sbf sheet i rises along window bound first points a meet l);
+          meets = λ a l.
+              rw (listed_at end window a l) (end_serves p m sbf sheet i rises along window bound first points a meet l);
         }

@@ -18,7 +18,8 @@ abbrev numbers_of : (ℕ → Bool) → ℕ → List ℕ
 numbers_of test zero = []
 numbers_of test (suc n) = cond (test n) (n ∷ numbers_of test n) (numbers_of test n)
 
-one_of_first : (b : Bool) (n : ℕ) (us : List ℕ) (k : ℕ) → is_one_of (cond b (n ∷ us) us) k ≡ ((b && (n == k)) || is_one_of us k)
+one_of_first : (b : Bool) (n : ℕ) (us : List ℕ) (k : ℕ) →
+    is_one_of (cond b (n ∷ us) us) k ≡ ((b && (n == k)) || is_one_of us k)
 one_of_first true n us k = refl
 one_of_first false n us k = refl
 
@@ -70,7 +71,8 @@ inside_since g set s u stretch v k a b r i = elim (cases_lt (job_at g.run k).rel
       absurd (omega (arith, stretch.quiet k p.listed i before, p.not_done, more))
 ]
 
-module _ (g : Setting) (set : ℕ → Bool) (s u : ℕ) (up : IsUpSet g.p g.sheet g.run set) (stretch : IsBusy g.run set s u) where
+module _ (g : Setting) (set : ℕ → Bool) (s u : ℕ) (up : IsUpSet g.p g.sheet g.run set)
+    (stretch : IsBusy g.run set s u) where
   -- the set, given by a list
   abbrev us : List ℕ
   us = numbers_of set (length g.run.jobs)
@@ -158,7 +160,8 @@ module _ (g : Setting) (set : ℕ → Bool) (s u : ℕ) (up : IsUpSet g.p g.shee
       (is_chosen : (v k : ℕ) → s ≤ v → v < u → tick_at g.run v ≡ Runs k → set k ≡ true → chosen k ≡ true) where
     served_stays : (t : ℕ) → t < length g.run.ticks → served g chosen t ≤ served g chosen (suc t)
     unfolding served
-    served_stays t h = sum_le _ _ (length g.run.jobs) (λ k b. cond_mono (chosen k) _ _ (omega (arith, service_more g.run k t h)))
+    served_stays t h =
+        sum_le _ _ (length g.run.jobs) (λ k b. cond_mono (chosen k) _ _ (omega (arith, service_more g.run k t h)))
 
     served_grows : (t k : ℕ) → t < length g.run.ticks → k < length g.run.jobs → tick_at g.run t ≡ Runs k → chosen k ≡ true →
         served g chosen t + 1 ≤ served g chosen (suc t)
@@ -189,4 +192,5 @@ module _ (g : Setting) (set : ℕ → Bool) (s u : ℕ) (up : IsUpSet g.p g.shee
     pub supply_served : (most : ℕ) → BlockAtMost g set s most → g.sbf (u - s) ≤ most + served g chosen u
     supply_served most bound =
         let e : s + (u - s) ≡ u = omega (arith, stretch.order) in
-        omega (arith, enough, out_bound most bound, inside_served (u - s) (omega (arith, stretch.order)), ap (served g chosen) e)
+        let inside = inside_served (u - s) (omega (arith, stretch.order)) in
+        omega (arith, enough, out_bound most bound, inside, ap (served g chosen) e)

@@ -45,7 +45,8 @@ module _ (cost w s : ℕ → ℕ) (n : ℕ) (run : Run) (tasks : (k : ℕ) → k
   part_more : (m o : ℕ) → m < length run.jobs →
       part (suc m) o ≡ part m o + cost o * cond (arrives_in o (s o) (s o + w o) (job_at run m)) 1 0
   unfolding part
-  part_more m o h = omega (arith, ap (λ (x : ℕ). cost o * x) (count_more (arrives_in o (s o) (s o + w o)) run.jobs no_job m h))
+  part_more m o h =
+      omega (arith, ap (λ (x : ℕ). cost o * x) (count_more (arrives_in o (s o) (s o + w o)) run.jobs no_job m h))
 
   by_task : (m : ℕ) → m ≤ length run.jobs →
       sum_below (λ k. cond (in_window w s run k) (cost (job_at run k).task) 0) m ≤ sum_below (part m) n

@@ -1,5 +1,5 @@
 use Rattle.std.proofs.Common.{sym, ◌∙◌, arith}
-use Rattle.std.proofs.lemmas.Bool.{both_ways, not-true}
+use Rattle.std.proofs.lemmas.Bool.{both_ways}
 use Rattle.schedule_laws.proofs.TestFacts.{idle_job, held_back, free_to_run}
 use Rattle.schedule_laws.proofs.validity.may_run.Goals as goal
 

@@ -45,7 +45,7 @@ module _ (p : PolicyMeaning) (m : CutMeaning) (sbf : ℕ → ℕ) (sheet : Sheet
       let holds : (i : ℕ) → i < length sheet.tasks → IsBounded p m sbf sheet i (entry_at cert i).bound = λ i lt.
       let fits : IsEntry (entry_at cert i) = All-get_or IsEntry cert.entries i no_entry (omega (arith, meets.count)) within.entries in
       let task = meets.tasks i lt in
-      law sheet valid served i (entry_at cert i).window (entry_at cert i).bound (entry_at cert i).points lt task.window fits.some task.points
+      law sheet valid served i (entry_at cert i).window (entry_at cert i).bound (entry_at cert i).points lt task.covers task.window fits.some task.points
       in
       record {
         count = simp length-map meets.count;

@@ -13,8 +13,8 @@ use Rattle.run_model.specs.declared.run.Tick.TheVariants.{Off, Idle, Runs}
 use Rattle.run_model.specs.Runs.{job_at, tick_at, runs, is_on, service_of, ticks_in, is_pending, IsPending, IsDone}
 use Rattle.run_model.proofs.PendingFacts.{pending_from, pending_to}
 use Rattle.run_model.proofs.ServiceFacts.{runs_tells, tick_cases}
-use Rattle.schedule_laws.specs.Compliance.{arrivals_of, can_cut, JobFits, MayRun, IsSupplied, IsWithinCurves}
-use Rattle.schedule_laws.proofs.PrefixFacts.{begun_where_uncut}
+use Rattle.schedule_laws.specs.Compliance.{arrivals_of, can_cut, JobFits, IsReleased, MayRun, IsSupplied, IsWithinCurves}
+use Rattle.schedule_laws.proofs.PrefixFacts.{released_before, begun_where_uncut}
 use Rattle.simulated_run.specs.SimulatedRun.{World, with_tick, choice, chosen, inside_segment, most_urgent, may_be_off, comes_before}
 use Rattle.simulated_run.proofs.OrderFacts.{comes_itself, comes_chain, later_key, earlier_first}
 use Rattle.simulated_run.proofs.RunFacts.{ticks_more, tick_kept, tick_new, service_kept, service_new, window_kept, window_new}
@@ -33,18 +33,18 @@ module _ (w : World) (laws : IsLawful w) (t : ℕ) (run : Run) (sound : IsSound 
   cut_laws k b = laws.cuts (job_at run k).task (sound.complies.valid.jobs k b).task
 
   -- a job inside a segment has begun and is not done
+  pub inside_served : (k : ℕ) → k < length run.jobs → can_cut w.cuts w.sheet run k t ≡ false → 0 < service_of run k t
+  inside_served k b f = begun_where_uncut w.cuts w.sheet run k t (cut_laws k b) (sound.complies.valid.jobs k b).fit f
+
   pub inside_pending : (k : ℕ) → k < length run.jobs → can_cut w.cuts w.sheet run k t ≡ false → IsPending run k t
   inside_pending k b f = record {
     listed = b;
-    arrived = sound.early k b;
+    released = omega (arith, released_before w.cuts w.sheet run sound.complies.valid k t (omega (arith, sound.now)) (inside_served k b f));
     not_done = elim (cases_lt (service_of run k t) (job_at run k).cost) [
       | inl l ↦ l
       | inr l ↦ absurd (let c = (cut_laws k b).cut_last (job_at run k) (service_of run k t) (sound.complies.valid.jobs k b).fit l in cc)
     ];
   }
-
-  pub inside_served : (k : ℕ) → k < length run.jobs → can_cut w.cuts w.sheet run k t ≡ false → 0 < service_of run k t
-  inside_served k b f = begun_where_uncut w.cuts w.sheet run k t (cut_laws k b) (sound.complies.valid.jobs k b).fit f
 
   follows_inside : (k : ℕ) → k < length run.jobs → can_cut w.cuts w.sheet run k t ≡ false → MayFollow w t run (Runs k)
   follows_inside k b f = record {
@@ -66,7 +66,7 @@ module _ (w : World) (laws : IsLawful w) (t : ℕ) (run : Run) (sound : IsSound 
       let orders : (n : ℕ) → n < length run.jobs → (job_at run n).task ≡ (job_at run k).task → (job_at run n).arrival < (job_at run k).arrival → IsDone run n t = λ n c same less. elim (cases_lt (service_of run n t) (job_at run n).cost) [
         | inr l ↦ l
         | inl l ↦
-            let q : IsPending run n t = record { listed = c; arrived = omega (arith, sound.early n c); not_done = l } in
+            let q : IsPending run n t = record { listed = c; released = omega (arith, (sound.complies.valid.releases k b).order n c same less, pends.released); not_done = l } in
             let le = laws.policy.in_order (job_at run n) (job_at run k) (sound.complies.valid.jobs n c).task (sound.complies.valid.jobs k b).task same (omega arith) in
             let first : comes_before w run n k ≡ true = earlier_first w run n k le same less in
             let g = is_first n q in
@@ -129,11 +129,11 @@ module _ (w : World) (laws : IsLawful w) (t : ℕ) (run : Run) (sound : IsSound 
 
     there : (k u : ℕ) → u ≤ t → IsPending run k u → IsPending (with_tick run y) k u
     unfolding with_tick
-    there k u h p = record { listed = p.listed; arrived = p.arrived; not_done = omega (arith, p.not_done, same k u h) }
+    there k u h p = record { listed = p.listed; released = p.released; not_done = omega (arith, p.not_done, same k u h) }
 
     back : (k u : ℕ) → u ≤ t → IsPending (with_tick run y) k u → IsPending run k u
     unfolding with_tick
-    back k u h p = record { listed = p.listed; arrived = p.arrived; not_done = omega (arith, p.not_done, same k u h) }
+    back k u h p = record { listed = p.listed; released = p.released; not_done = omega (arith, p.not_done, same k u h) }
 
     done_there : (n u : ℕ) → u ≤ t → IsDone run n u → IsDone (with_tick run y) n u
     unfolding with_tick
@@ -195,6 +195,14 @@ module _ (w : World) (laws : IsLawful w) (t : ℕ) (run : Run) (sound : IsSound 
     unfolding with_tick
     sound_early k b = omega (arith, sound.early k b)
 
+    sound_prompt : (k : ℕ) → k < length (with_tick run y).jobs → (job_at (with_tick run y) k).release ≡ (job_at (with_tick run y) k).arrival
+    unfolding with_tick
+    sound_prompt = sound.prompt
+
+    sound_releases : (k : ℕ) → k < length (with_tick run y).jobs → IsReleased w.sheet (with_tick run y) k
+    unfolding with_tick
+    sound_releases k b = record { timely = (sound.complies.valid.releases k b).timely; order = (sound.complies.valid.releases k b).order }
+
     sound_jobs : (k : ℕ) → k < length (with_tick run y).jobs → JobFits w.cuts w.sheet (with_tick run y) k
     unfolding with_tick
     sound_jobs k b = record { task = (sound.complies.valid.jobs k b).task; fit = (sound.complies.valid.jobs k b).fit }
@@ -238,9 +246,11 @@ module _ (w : World) (laws : IsLawful w) (t : ℕ) (run : Run) (sound : IsSound 
     sound_tick = record {
       now = omega (arith, ticks_more run y, sound.now);
       early = sound_early;
+      prompt = sound_prompt;
       complies = record {
         valid = record {
           jobs = sound_jobs;
+          releases = sound_releases;
           ticks = λ u k h. at_each (λ i x. i ≤ t → x ≡ Runs k → MayRun (with_tick run y) k i)
               (λ i c l e. may_run_there k i l (sound.complies.valid.ticks i k c e))
               (λ l e. may_run_there k t l (follows.may_run k e)) u h (in_ticks u h);

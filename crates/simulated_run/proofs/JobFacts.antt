@@ -100,7 +100,7 @@ cost_fits (Seed seed) (Floating bound) cost state h f = drawn_fits cost state h
 
 -- a job with these numbers
 abbrev job_of : ℕ → ℕ → ℕ → List ℕ → Job
-job_of o t cost segments = record { task = o; arrival = t; cost = cost; segs = segments }
+job_of o t cost segments = record { task = o; arrival = t; release = t; cost = cost; segs = segments }
 
 floats : (o t bound cost : ℕ) → 1 ≤ bound → segments_fit (Floating bound) (job_of o t cost (floating_segments bound cost)) ≡ true
 floats o t bound cost low = and_from _ _ (floating_within bound cost low) (eq-eqb _ _ (floating_sum bound cost low))
@@ -133,6 +133,10 @@ module _ (mode : Mode) (task : Task) (ok : IsTask task) (o t state : ℕ) where
   pub new_arrival : (new_job mode task o t state).arrival ≡ t
   unfolding new_job
   new_arrival = refl
+
+  pub new_release : (new_job mode task o t state).release ≡ t
+  unfolding new_job
+  new_release = refl
 
   -- a new job fits by the task's own cut
   pub new_fits : fits task (new_job mode task o t state) ≡ true

@@ -95,7 +95,7 @@ module _ (w : World) (laws : IsLawful w) where
       let j : Job = new_job w.mode (task_at w.sheet o) o t m.state in
       let fits : w.cuts.fits (task_at w.sheet o) j ≡ true = new_fits_by w.mode (task_at w.sheet o) (laws.sheet.each o b) o t m.state w.cuts (laws.tabled o b) in
       record {
-        sound = sound_job w laws t m.run amid.sound j b refl fits (λ s h. omega (arith, amid.left s h));
+        sound = sound_job w laws t m.run amid.sound j b refl refl fits (λ s h. omega (arith, amid.left s h));
         left = λ s h. omega (arith, amid.left s h, arrivals_more m.run j o s (suc t), at_most_one (arrives_in o s (suc t) j));
         fresh = fresh_job o t m.run j refl amid.fresh;
       }
@@ -145,8 +145,9 @@ module _ (w : World) (laws : IsLawful w) where
   nothing = record {
     now = refl;
     early = λ k b. absurd (omega arith);
+    prompt = λ k b. absurd (omega arith);
     complies = record {
-      valid = record { jobs = λ k b. absurd (omega arith); ticks = λ u k b. absurd (omega arith) };
+      valid = record { jobs = λ k b. absurd (omega arith); releases = λ k b. absurd (omega arith); ticks = λ u k b. absurd (omega arith) };
       curves = λ o s u b h. omega arith;
       supplied = λ a u h b. (let e : u - a ≡ 0 = omega arith in omega (arith, ap w.sbf e, laws.starts));
       conserving = λ u k b. absurd (omega arith);

@@ -16,7 +16,7 @@ use Rattle.task_sheet.specs.declared.tasks.Task.{Task}
 use Rattle.task_sheet.specs.declared.refusal.SheetRefusal.{SheetRefusal}
 use Rattle.task_sheet.specs.SheetParts.{SheetParts}
 use Rattle.task_sheet.specs.Refusing.{◌>>=◌, holds}
-use Rattle.task_sheet.specs.Rules.{is_positive, is_name, supply_rule, cut_rule, task_rule, tasks_rule, check_of}
+use Rattle.task_sheet.specs.Rules.{is_positive, is_name, is_priority_point, most_jitter, supply_rule, cut_rule, task_rule, tasks_rule, check_of}
 use Rattle.task_sheet.specs.Sheets.{parts_of, no_task, CutFits, IsPromise, IsTask, IsValidSheet}
 
 pub holds_means : (b : Bool) (e : SheetRefusal) → holds b e ≡ Ok tt → b ≡ true
@@ -81,6 +81,8 @@ pub record TaskPasses (names : List (List ℕ)) (t : Task) : Type 0 where
   pub cost : is_positive t.cost ≡ true
   pub deadline : is_positive t.deadline ≡ true
   pub priority : t.priority ≤ 1000000000
+  pub jitter : t.jitter ≤ most_jitter
+  pub point : is_priority_point t.point ≡ true
   pub cut : CutFits t.cost t.cut
 
 not_false : (b : Bool) → not b ≡ true → b ≡ false
@@ -95,19 +97,25 @@ task_means n names t h =
     let c = both_hold _ _ _ b.0 in
     let d = both_hold _ _ _ c.0 in
     let e = both_hold _ _ _ d.0 in
+    let f = both_hold _ _ _ e.0 in
+    let g = both_hold _ _ _ f.0 in
     record {
-      name = holds_means _ _ e.0;
-      fresh = not_false _ (holds_means _ _ e.1);
-      cost = holds_means _ _ d.1;
-      deadline = holds_means _ _ c.1;
-      priority = leb-true t.priority 1000000000 (holds_means _ _ b.1);
+      name = holds_means _ _ g.0;
+      fresh = not_false _ (holds_means _ _ g.1);
+      cost = holds_means _ _ f.1;
+      deadline = holds_means _ _ e.1;
+      priority = leb-true t.priority 1000000000 (holds_means _ _ d.1);
+      jitter = leb-true t.jitter most_jitter (holds_means _ _ c.1);
+      point = holds_means _ _ b.1;
       cut = cut_means n t.cost t.cut a.1;
     }
 
 pub task_passes : (n : ℕ) (names : List (List ℕ)) (t : Task) → TaskPasses names t → task_rule n names t ≡ Ok tt
 unfolding task_rule
 task_passes n names t p =
-    rw (p.name, p.fresh, p.cost, p.deadline, le-leb t.priority 1000000000 p.priority, cut_passes n t.cost t.cut (positive_high t.cost p.cost) p.cut) refl
+    let priority = le-leb t.priority 1000000000 p.priority in
+    let jitter = le-leb t.jitter most_jitter p.jitter in
+    rw (p.name, p.fresh, p.cost, p.deadline, priority, jitter, p.point, cut_passes n t.cost t.cut (positive_high t.cost p.cost) p.cut) refl
 
 task_from : (names : List (List ℕ)) (t : Task) → IsCurve t.curve → TaskPasses names t → IsTask t
 task_from names t curve p = record {
@@ -117,6 +125,8 @@ task_from names t curve p = record {
   deadline_low = positive_low t.deadline p.deadline;
   deadline_high = positive_high t.deadline p.deadline;
   priority_high = p.priority;
+  jitter_high = p.jitter;
+  point = p.point;
   curve = curve;
   cut = p.cut;
 }
@@ -128,6 +138,8 @@ task_back names t fresh p = record {
   cost = positive_from t.cost p.cost_low p.cost_high;
   deadline = positive_from t.deadline p.deadline_low p.deadline_high;
   priority = p.priority_high;
+  jitter = p.jitter_high;
+  point = p.point;
   cut = p.cut;
 }
 

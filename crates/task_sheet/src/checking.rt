@@ -179,7 +179,7 @@ fn is_taken(name: &str, earlier: &[Task]) -> bool
     false
 }
 
-#[tactic(auto, unfolding(crate::specs::Rules::task_rule))]
+#[tactic(auto, unfolding(crate::specs::Rules::task_rule, crate::specs::Rules::most_jitter, crate::specs::Rules::most_point))]
 fn check_task(n: u32, earlier: &[Task], task: &Task) -> Result<(), SheetRefusal>
     ensures rule { result ≡ task_rule n (map (λ t. t.name) earlier.now) task.now }
     ensures curve { IsCurve task.now.curve }

@@ -9,6 +9,7 @@ use Rattle.std.proofs.lemmas.Nat.{mod_below}
 use Rattle.lists.specs.Ranges.{is_between}
 use Rattle.curve.specs.Validity.{IsCurve}
 use Rattle.task_sheet.specs.Rules.{is_name, is_positive, are_positive}
+use Rattle.task_sheet.specs.Limits.{no_point}
 use Rattle.task_sheet.specs.Sheets.{CutFits, IsTask}
 use Rattle.task_sheet.proofs.RuleFacts.{positive_from}
 use Rattle.exercise.specs.GeneratedSheet.{halves, cut_by, curve_of, task_by}
@@ -67,6 +68,8 @@ task_valid i period cost b l h d g = record {
   deadline_low = l;
   deadline_high = h;
   priority_high = omega arith;
+  jitter_high = omega arith;
+  point = no_point;
   curve = curve_valid period l h;
   cut = cut_fits (i % 4) cost d g;
 }

@@ -15,6 +15,7 @@ use Rattle.run_model.proofs.PendingFacts.{pending_from, pending_to}
 use Rattle.run_model.proofs.ServiceFacts.{runs_tells, tick_cases}
 use Rattle.schedule_laws.specs.Compliance.{arrivals_of, can_cut, JobFits, IsReleased, MayRun, IsSupplied, IsWithinCurves}
 use Rattle.schedule_laws.proofs.PrefixFacts.{released_before, begun_where_uncut}
+use Rattle.simulated_run.specs.Laws.{IsPrompt}
 use Rattle.simulated_run.specs.SimulatedRun.{World, with_tick, choice, chosen, inside_segment, most_urgent, may_be_off, comes_before}
 use Rattle.simulated_run.proofs.OrderFacts.{comes_itself, comes_chain, later_key, earlier_first}
 use Rattle.simulated_run.proofs.RunFacts.{ticks_more, tick_kept, tick_new, service_kept, service_new, window_kept, window_new}
@@ -195,7 +196,7 @@ module _ (w : World) (laws : IsLawful w) (t : ℕ) (run : Run) (sound : IsSound 
     unfolding with_tick
     sound_early k b = omega (arith, sound.early k b)
 
-    sound_prompt : (k : ℕ) → k < length (with_tick run y).jobs → (job_at (with_tick run y) k).release ≡ (job_at (with_tick run y) k).arrival
+    sound_prompt : IsPrompt (with_tick run y)
     unfolding with_tick
     sound_prompt = sound.prompt
 

@@ -1,5 +1,5 @@
 -- The machine, over one more job.
-use Rattle.std.proofs.Common.{◌≡◌, ℕ, suc, ◌+◌, ◌-◌, ◌<◌, ◌≤◌, true, List, [], ◌∷◌, ◌++◌, length, Option, Some, sym, ◌∙◌, ap, subst, arith, get_or}
+use Rattle.std.proofs.Common.{◌≡◌, ℕ, suc, ◌+◌, ◌-◌, ◌<◌, ◌≤◌, true, List, [], ◌∷◌, ◌++◌, length, Option, Some, refl, sym, ◌∙◌, ap, subst, arith, get_or}
 use Rattle.std.specs.Global.{Vec}
 use Rattle.std.specs.BTreeMap.{BTreeMap, Updates}
 use Rattle.std.proofs.Math.ListN.{set}
@@ -45,7 +45,7 @@ use Rattle.simulator.proofs.KeepFacts.{kept_job}
 
 -- the job that is made is the new job
 pub job_is : (mode : Mode) (task own : Task) (o t state cost : ℕ) (segs : List ℕ) → task ≡ own → cost ≡ cost_by mode task.cut task.cost state → segs ≡ segments_by mode task.cut (cost_by mode task.cut task.cost state) state
-    → (let j : Job = record { task = o; arrival = t; cost = cost; segs = segs } in j) ≡ new_job mode own o t state
+    → (let j : Job = record { task = o; arrival = t; release = t; cost = cost; segs = segs } in j) ≡ new_job mode own o t state
 unfolding new_job
 job_is mode task own o t state cost segs same e f = cc
 
@@ -56,7 +56,7 @@ unfolding new_job
 new_is mode m sheet o t state jobs b ok law tabled few short =
     let fits : m.fits (task_at sheet o) (new_job mode (task_at sheet o) o t state) ≡ true = new_fits_by mode (task_at sheet o) ok o t state m tabled in
     record {
-      known = record { task = b; arrived = omega arith; cost = omega (arith, new_cost_high mode (task_at sheet o) ok o t state, ok.cost_high); fits = fits; floats = new_floats mode (task_at sheet o) o t state };
+      known = record { task = b; arrived = omega arith; prompt = refl; cost = omega (arith, new_cost_high mode (task_at sheet o) ok o t state, ok.cost_high); fits = fits; floats = new_floats mode (task_at sheet o) o t state };
       positive = new_cost_low mode (task_at sheet o) ok o t state;
       cut = law.cut_first (new_job mode (task_at sheet o) o t state) fits;
       few_jobs = few;

@@ -60,7 +60,7 @@ floating_cuttable m task j bound s ok tabled is floats =
     floating_cut bound j.cost s low
     ∙ (ap (λ (l : List ℕ). is_prefix_sum l s || leb j.cost s) (sym segs) ∙ (ap (λ (c : Cut). cuttable_by c j s) (sym is) ∙ sym (tabled.same_cuts j s)))
 
-floats_by : (mode : Mode) (cut : Cut) (o t cost state : ℕ) → FloatsBy cut (record { task = o; arrival = t; cost = cost_by mode cut cost state; segs = segments_by mode cut (cost_by mode cut cost state) state })
+floats_by : (mode : Mode) (cut : Cut) (o t cost state : ℕ) → FloatsBy cut (record { task = o; arrival = t; release = t; cost = cost_by mode cut cost state; segs = segments_by mode cut (cost_by mode cut cost state) state })
 floats_by mode Full o t cost state = tt
 floats_by mode Never o t cost state = tt
 floats_by mode (Fixed segments) o t cost state = tt

@@ -65,7 +65,7 @@ only_first cut n (Some j) h = first_some cut j n h.0 h.1 (λ k b. h.2 k (let c =
 module _ (p : PolicyMeaning) (m : CutMeaning) (sheet : SheetParts) (t : ℕ) (run : Run) (left : List ℕ) (queue : BTreeMap Rank ℕ) (x : Option ℕ) (kept : IsKeptAt p m sheet t run left queue x) where
   pub kept_tells : Tells run left t
   kept_tells = record {
-    waits = λ k b pos. (let a = kept.amounts k b in let r = (kept.known k b).arrived in grind (arith, nat_tests));
+    waits = λ k b pos. (let a = kept.amounts k b in let r = (kept.known k b).arrived in let p = (kept.known k b).prompt in grind (arith, nat_tests));
     over = λ k b pos. (let a = kept.amounts k b in grind (arith, nat_tests));
   }
 
@@ -100,7 +100,7 @@ module _ (p : PolicyMeaning) (m : CutMeaning) (sheet : SheetParts) (t : ℕ) (ru
   }
 
   later : (k : ℕ) → k < length run.jobs → IsKnown m sheet (suc t) (job_at run k)
-  later k b = let h = kept.known k b in record { task = h.task; arrived = omega (arith, h.arrived); cost = h.cost; fits = h.fits; floats = h.floats }
+  later k b = let h = kept.known k b in record { task = h.task; arrived = omega (arith, h.arrived); prompt = h.prompt; cost = h.cost; fits = h.fits; floats = h.floats }
 
   listed_then : (y : Tick) → ((k : ℕ) → y ≡ Runs k → k < length run.jobs) → (u k : ℕ) → u < suc t → tick_at (with_tick run y) u ≡ Runs k → k < length run.jobs
   listed_then y listed u k b e = elim (cases_lt u t) [

@@ -70,6 +70,7 @@ FloatsBy (Floating bound) j = j.segs ≡ floating_segments bound j.cost
 pub record IsKnown (m : CutMeaning) (sheet : SheetParts) (t : ℕ) (j : Job) : Type 0 where
   pub task : j.task < length sheet.tasks
   pub arrived : j.arrival ≤ t
+  pub prompt : j.release ≡ j.arrival
   pub cost : j.cost ≤ 1000000000
   pub fits : m.fits (task_at sheet j.task) j ≡ true
   pub floats : FloatsBy (task_at sheet j.task).cut j

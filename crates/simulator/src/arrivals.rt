@@ -74,6 +74,7 @@ fn add_job<P: Policy, M: Tabled>(
     let job = Job {
         task: o,
         arrival: t,
+        release: t,
         cost: load.cost,
         segs: Items::new(load.segs),
     };

@@ -7,7 +7,7 @@ ghost use Rattle.supply.specs.Promises.{sbf_of};
 ghost use Rattle.run_text.specs.Text.{IsWithinLimits};
 ghost use Rattle.schedule_laws.specs.Compliance.{IsCompliant};
 ghost use Rattle.simulated_run.specs.declared.mode.Mode.TheVariants.{Dense};
-ghost use Rattle.simulated_run.specs.Laws.{IsDense};
+ghost use Rattle.simulated_run.specs.Laws.{IsDense, IsPrompt};
 ghost use Rattle.simulated_run.specs.SimulatedRun.{World, world_of, seed_of as seed_by, arrive_below, moment_after};
 ghost use Rattle.simulator.specs.Simulations.{IsSimulation, IsRefusal};
 ghost use Rattle.simulator.specs.Kept.{IsKept, world_by, moment_of};
@@ -97,7 +97,7 @@ fn run_tick<P: Policy, M: Tabled>(
 
 /// The simulated run of a sheet's first `n` ticks, up to 100,000; `supply` is what the sheet states.
 ///
-/// The run complies with the sheet, and can be written; in mode dense as many jobs arrive at each
+/// The run complies with the sheet, and can be written; each job is released at its arrival. In mode dense as many jobs arrive at each
 /// tick as the curves still admit. It is refused by `Jobs` where it has more than
 /// 20,000 jobs, and by `Segments` where their segments are more than 1,000,000, as soon as a job
 /// passes a limit; a job that passes both limits passes `Jobs`.
@@ -113,6 +113,7 @@ pub fn simulate<P: Policy, M: Tabled, S: Supply>(
     requires stated { S.sbf supply.now ≡ sbf_of sheet.now.supply }
     ensures exact { IsSimulation (world_of P.meaning M.cuts (S.sbf supply.now) sheet.now mode) n result }
     ensures complies { IfOk result (IsCompliant P.meaning M.cuts (S.sbf supply.now) sheet.now) }
+    ensures prompt { IfOk result IsPrompt }
     ensures full { mode ≡ Dense → IfOk result (IsDense sheet.now n) }
     ensures within { IfOk result IsWithinLimits }
 {

@@ -1,4 +1,4 @@
--- The machine, over one more job.
+-- The simulation, over one more job.
 use Rattle.std.proofs.Common.{◌≡◌, ℕ, suc, ◌+◌, ◌-◌, ◌<◌, ◌≤◌, true, List, [], ◌∷◌, ◌++◌, length, Option, Some, refl, sym, ◌∙◌, ap, subst, arith, get_or}
 use Rattle.std.specs.Global.{Vec}
 use Rattle.std.specs.BTreeMap.{BTreeMap, Updates}
@@ -31,13 +31,13 @@ use Rattle.windows.specs.Arrivals.{allowance_in, admits_in, IsPast}
 use Rattle.windows.specs.Crowds.{AreArrivals}
 use Rattle.windows.specs.Supplied.{AreCounts, ArePromised}
 use Rattle.simulator.proofs.SameAnswers.{allowance_same, counts_job}
-use Rattle.simulator.specs.declared.machine.Rank.{Rank}
+use Rattle.simulator.specs.declared.simulation.Rank.{Rank}
 use Rattle.simulator.specs.declared.refusal.SimRefusal.{SimRefusal}
 use Rattle.simulator.specs.declared.refusal.SimRefusal.TheVariants.{Jobs, Segments, Memory}
 use Rattle.simulator.specs.Simulations.{IsRefusal}
 use Rattle.simulator.specs.Loads.{IsLoadRefusal}
 use Rattle.simulator.specs.Ranks.{rank_at, rank_cmp}
-use Rattle.simulator.specs.Kept.{IsKeptBy, IsWithin, IsNew, IsKnown, HasArrivals, HasCuts, IsTabled, world_by}
+use Rattle.simulator.specs.SimulationState.{IsKeptBy, IsWithin, IsNew, IsKnown, HasArrivals, HasCuts, IsTabled, world_by}
 use Rattle.simulator.proofs.LimitFacts.{segments_more, too_many_jobs, too_many_segments, refusal_on}
 use Rattle.simulator.proofs.WindowFacts.{has_arrivals_more, past_is, promised_is}
 use Rattle.simulator.proofs.CutFacts.{new_floats}
@@ -69,7 +69,7 @@ made_new mode m sheet o t state jobs job e b ok law tabled few short =
     subst (IsNew m sheet jobs) (sym e) (new_is mode m sheet o t state jobs b ok law tabled few (subst (λ (v : Job). segments_of jobs + length v.segs ≤ 1000000) e short))
 
 module _ (p : PolicyMeaning) (m : CutMeaning) (sheet : SheetParts) (t : ℕ) (run : Run) (left : List ℕ) (queue : BTreeMap Rank ℕ) (x : Option ℕ) (total : ℕ) (lists : List (Vec ℕ)) (sums : List ℕ) (kept : IsKeptBy p m sheet t run left queue x total lists sums) where
-  -- the machine after a new job
+  -- the simulation after a new job
   pub kept_with : (j : Job) (n : ℕ) (r : Rank) (after : BTreeMap Rank ℕ) (run' : Run) (left' : List ℕ) (total' : ℕ) (lists' : List (Vec ℕ)) (longer : Vec ℕ) → IsNew m sheet run.jobs j → j.arrival ≡ t → n ≡ length run.jobs → r ≡ rank_at p sheet j n → Updates rank_cmp queue after r (Some n)
       → run' ≡ with_job run j → left' ≡ left ++ j.cost ∷ [] → total' ≡ total + length j.segs → lists' ≡ set lists j.task longer → longer.items ≡ (get_or lists j.task longer).items ++ j.arrival ∷ [] → IsKeptBy p m sheet t run' left' after x total' lists' sums
   unfolding with_job
@@ -134,7 +134,7 @@ arrived_by w o t m g n state e f h =
     let later : state ≡ after_arriving w.mode (room w o t m) m.state = h ∙ ap (λ (v : ℕ). after_arriving w.mode v m.state) e in
     ap (λ (v : ℕ). add_jobs w o t v (record { run = m.run; state = state })) count ∙ ap (λ (v : ℕ). add_jobs w o t (arriving w.mode (room w o t m) m.state) (record { run = m.run; state = v })) later
 
--- the machine's list of a task
+-- the simulation's list of a task
 pub list_is : (o n : ℕ) (run : Run) (lists : List (Vec ℕ)) (list : List ℕ) (v : Vec ℕ) → HasArrivals n run lists → o < n → v ≡ get_or lists o v → list ≡ v.items → AreArrivals run o list
 list_is o n run lists list v has b is_v is_list = subst (AreArrivals run o) (sym (is_list ∙ ap (λ (u : Vec ℕ). u.items) is_v)) (has.each o v b)
 

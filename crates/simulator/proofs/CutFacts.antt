@@ -15,7 +15,7 @@ use Rattle.preemption.specs.Segments.{or_right}
 use Rattle.simulated_run.specs.declared.mode.Mode.{Mode}
 use Rattle.simulated_run.specs.declared.mode.Mode.TheVariants.{Dense, Seed}
 use Rattle.simulated_run.specs.Jobs.{rest_segment, floating_segments, new_job, cost_by, segments_by}
-use Rattle.simulator.specs.Kept.{FloatsBy}
+use Rattle.simulator.specs.SimulationState.{FloatsBy}
 
 -- within the first bound only the begin is a multiple of it
 small_multiple : (s bound : ℕ) → s < bound → (s % bound == 0) ≡ (s == 0)

@@ -1,4 +1,4 @@
--- What the machine keeps, over one more job and one more tick.
+-- What the simulation keeps, over one more job and one more tick.
 use Rattle.std.proofs.Common.{◌≡◌, ◌≢◌, ℕ, suc, ◌+◌, ◌-◌, ◌<◌, ◌≤◌, Bool, true, false, cond, List, [], ◌∷◌, ◌++◌, length, Option, Some, None, refl, sym, ◌∙◌, ap, subst, inl, inr, arith}
 use Rattle.std.specs.BTreeMap.{BTreeMap, Updates}
 use Rattle.std.proofs.Math.ListN.{set}
@@ -20,9 +20,9 @@ use Rattle.schedule_laws.specs.Compliance.{can_cut}
 use Rattle.simulated_run.specs.SimulatedRun.{World, with_job, with_tick, inside_segment}
 use Rattle.simulated_run.proofs.GrowthFacts.{length_more}
 use Rattle.simulated_run.proofs.RunFacts.{job_kept, job_new, jobs_more, tick_kept, tick_new, ticks_more, service_new, service_unlisted}
-use Rattle.simulator.specs.declared.machine.Rank.{Rank}
+use Rattle.simulator.specs.declared.simulation.Rank.{Rank}
 use Rattle.simulator.specs.Ranks.{rank_at, rank_cmp}
-use Rattle.simulator.specs.Kept.{IsQueue, left_at, IsKnown, IsKeptAt, OnlyInside, CanRun}
+use Rattle.simulator.specs.SimulationState.{IsQueue, left_at, IsKnown, IsKeptAt, OnlyInside, CanRun}
 use Rattle.simulator.proofs.LimitFacts.{within_more}
 use Rattle.simulator.proofs.QueueFacts.{queue_push, Tells}
 
@@ -148,7 +148,7 @@ module _ (p : PolicyMeaning) (m : CutMeaning) (sheet : SheetParts) (t : ℕ) (ru
         within = kept.within;
       }
 
--- the definition finds the job that the machine has inside a segment
+-- the definition finds the job that the simulation has inside a segment
 pub kept_inside : (w : World) (t : ℕ) (run : Run) (left : List ℕ) (queue : BTreeMap Rank ℕ) (x : Option ℕ) → IsKeptAt w.policy w.cuts w.sheet t run left queue x → inside_segment w run t ≡ x
 unfolding inside_segment
 kept_inside w t run left queue x kept = only_first (λ k. can_cut w.cuts w.sheet run k t) (length run.jobs) x kept.segment

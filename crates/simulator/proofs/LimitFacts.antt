@@ -12,7 +12,7 @@ use Rattle.simulated_run.proofs.GrowthFacts.{BeginsWith, length_more}
 use Rattle.simulator.specs.declared.refusal.SimRefusal.{SimRefusal}
 use Rattle.simulator.specs.declared.refusal.SimRefusal.TheVariants.{Jobs, Segments, Memory}
 use Rattle.simulator.specs.Simulations.{passed_at, refused_by, IsRefusal}
-use Rattle.simulator.specs.Kept.{IsWithin}
+use Rattle.simulator.specs.SimulationState.{IsWithin}
 
 ge-ltb : (m n : ℕ) → n ≤ m → ltb m n ≡ false
 ge-ltb m n h = grind (arith, nat_tests)

@@ -22,9 +22,9 @@ use Rattle.run_model.specs.Runs.{no_job, is_pending}
 use Rattle.simulated_run.specs.SimulatedRun.{World, most_urgent, comes_before}
 use Rattle.simulated_run.proofs.GrowthFacts.{length_more}
 use Rattle.simulated_run.proofs.OrderFacts.{comes_before_is}
-use Rattle.simulator.specs.declared.machine.Rank.{Rank}
+use Rattle.simulator.specs.declared.simulation.Rank.{Rank}
 use Rattle.simulator.specs.Ranks.{rank_at, rank_of, rank_cmp}
-use Rattle.simulator.specs.Kept.{IsEntry, IsQueue, left_at}
+use Rattle.simulator.specs.SimulationState.{IsEntry, IsQueue, left_at}
 
 -- ranks
 

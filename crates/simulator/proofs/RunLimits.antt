@@ -1,4 +1,4 @@
--- A run that the machine has made can be written.
+-- A run that the simulation has made can be written.
 use Rattle.std.proofs.Common.{◌≡◌, ℕ, zero, suc, ◌<◌, ◌≤◌, ◌==◌, true, List, [], ◌∷◌, length, get_or, sum, All, refl, sym, ◌∙◌, arith}
 use Rattle.std.proofs.lemmas.Bool.{and_parts, eqb-true}
 use Rattle.std.proofs.lemmas.List.Elements.{All-from_get_or}
@@ -20,8 +20,8 @@ use Rattle.run_model.specs.Runs.{no_job, job_at, tick_at}
 use Rattle.run_text.specs.Text.{IsSegment, IsJob, IsTickOf, IsWithinLimits}
 use Rattle.std.specs.BTreeMap.{BTreeMap}
 use Rattle.std.proofs.Common.{Option}
-use Rattle.simulator.specs.declared.machine.Rank.{Rank}
-use Rattle.simulator.specs.Kept.{IsKeptAt, IsKnown}
+use Rattle.simulator.specs.declared.simulation.Rank.{Rank}
+use Rattle.simulator.specs.SimulationState.{IsKeptAt, IsKnown}
 
 -- each of some numbers is at most their sum
 within_sum : (xs : List ℕ) (i : ℕ) → i < length xs → get_or xs i 0 ≤ sum xs

@@ -1,4 +1,4 @@
--- The machine, over one more tick.
+-- The simulation, over one more tick.
 use Rattle.std.proofs.Common.{◌≡◌, ℕ, suc, ◌+◌, ◌-◌, ◌<◌, Bool, true, false, cond, List, [], ◌∷◌, ◌++◌, length, Option, Some, None, refl, sym, ◌∙◌, ap, subst, inl, inr, arith, get_or}
 use Rattle.std.specs.Global.{Vec}
 use Rattle.std.specs.BTreeMap.{BTreeMap, Updates}
@@ -18,10 +18,10 @@ use Rattle.run_model.specs.Runs.{job_at, service_of, is_on, is_pending}
 use Rattle.run_model.proofs.ServiceFacts.{runs_tells}
 use Rattle.schedule_laws.specs.Compliance.{can_cut}
 use Rattle.simulated_run.specs.SimulatedRun.{World, Moment, with_tick, add_tick, choice, chosen, most_urgent, comes_before, may_be_off, is_off, after_off}
-use Rattle.simulator.specs.declared.machine.Machine.{Machine}
-use Rattle.simulator.specs.declared.machine.Rank.{Rank}
+use Rattle.simulator.specs.declared.simulation.Simulation.{Simulation}
+use Rattle.simulator.specs.declared.simulation.Rank.{Rank}
 use Rattle.simulator.specs.Ranks.{rank_at, rank_of, rank_cmp}
-use Rattle.simulator.specs.Kept.{IsKeptAt, IsKeptBy, IsQueue, IsFirstEntry, MayBe, CanRun, OnlyInside, HasCuts, left_at, run_of}
+use Rattle.simulator.specs.SimulationState.{IsKeptAt, IsKeptBy, IsQueue, IsFirstEntry, MayBe, CanRun, OnlyInside, HasCuts, left_at, run_of}
 use Rattle.simulator.proofs.WindowFacts.{are_counts_more, has_arrivals_tick}
 use Rattle.simulator.proofs.QueueFacts.{queue_first, queue_none, queue_run, queue_done}
 use Rattle.simulator.proofs.KeepFacts.{kept_tells, kept_inside, kept_run, kept_tick}
@@ -43,7 +43,7 @@ module _ (w : World) (t : ℕ) (run : Run) (left : List ℕ) (queue : BTreeMap R
 
 -- a tick that is chosen can be taken
 
-module _ (w : World) (cuts : HasCuts w) (t : ℕ) (m : Machine) (kept : IsKeptAt w.policy w.cuts w.sheet t (run_of m) m.left.items m.queue m.inside) where
+module _ (w : World) (cuts : HasCuts w) (t : ℕ) (m : Simulation) (kept : IsKeptAt w.policy w.cuts w.sheet t (run_of m) m.left.items m.queue m.inside) where
   over_cut : (k : ℕ) → k < length m.jobs.items → can_cut w.cuts w.sheet (run_of m) k t ≡ false → 0 < left_at m.left.items k
   over_cut k b f = elim (cases_lt 0 (left_at m.left.items k)) [
     | inl p ↦ p

@@ -1,4 +1,4 @@
--- What may arrive, and whether a tick may be off, from what the machine keeps.
+-- What may arrive, and whether a tick may be off, from what the simulation keeps.
 use Rattle.std.proofs.Common.{◌≡◌, ◌≢◌, ℕ, zero, suc, ◌+◌, ◌-◌, ◌<◌, ◌≤◌, Bool, true, false, cond, List, [], ◌∷◌, ◌++◌, length, get_or, take, add-zero, add-suc, add-one, refl, sym, ◌∙◌, ap, subst, inl, inr, arith}
 use Rattle.std.specs.Global.{Vec}
 use Rattle.std.proofs.Math.ListN.{set}
@@ -21,7 +21,7 @@ use Rattle.windows.specs.Crowds.{AreArrivals}
 use Rattle.windows.specs.Supplied.{AreCounts, ArePromised}
 use Rattle.windows.proofs.CrowdFacts.{arrival_job}
 use Rattle.simulator.proofs.SameAnswers.{lists_none, lists_tick, lists_own, lists_other, counts_tick}
-use Rattle.simulator.specs.Kept.{HasArrivals}
+use Rattle.simulator.specs.SimulationState.{HasArrivals}
 
 -- one more job
 

@@ -2,16 +2,16 @@ use Rattle.std.proofs.Common.{◌≡◌, ℕ, ◌+◌, ◌<◌, ◌++◌, ◌∷
 use Rattle.std.specs.Global.{Vec}
 use Rattle.std.proofs.Math.ListN.{set}
 use Rattle.std.proofs.lemmas.List.{get_or_read}
-use Rattle.simulator.specs.Kept.{run_of}
+use Rattle.simulator.specs.SimulationState.{run_of}
 use Rattle.simulator.proofs.ArrivalFacts.{kept_with, with_job_is}
 use Rattle.simulator.proofs.arrivals.keep_job.Goals as goal
 
 pub returns-clause-run : goal.returns-clause-run
-returns-clause-run g c = with_job_is (run_of c.args.machine.now) c.push-3.new.self.items c.args.job c.in_ok-push-3.ensures.items
+returns-clause-run g c = with_job_is (run_of c.args.simulation.now) c.push-3.new.self.items c.args.job c.in_ok-push-3.ensures.items
 
 pub returns-clause-kept : goal.returns-clause-kept
 returns-clause-kept g c =
-    let m = c.args.machine.now in
+    let m = c.args.simulation.now in
     let j = c.args.job in
     let len : c.len-number.result ≡ length m.jobs.items = search rules in
     let b : j.task < length m.arrivals.items = omega (arith, c.requires.new.known.task, c.requires.kept.arrivals.tasks) in

@@ -8,7 +8,7 @@ use Rattle.simulated_run.specs.declared.mode.Mode.{Mode}
 use Rattle.simulated_run.specs.Laws.{IsDense, IsPrompt}
 use Rattle.simulated_run.specs.SimulatedRun.{World, world_of, moment_after, simulated_run}
 use Rattle.simulator.specs.Simulations.{IsSimulation, refused_by}
-use Rattle.simulator.specs.Kept.{IsKept, world_by, moment_of, run_of}
+use Rattle.simulator.specs.SimulationState.{IsKept, world_by, moment_of, run_of}
 use Rattle.simulator.proofs.SimulationFacts.{simulated, simulated_is, refused, run_is}
 use Rattle.simulator.proofs.RunLimits.{kept_within}
 use Rattle.simulator.proofs.running.simulate.Goals as goal
@@ -24,14 +24,14 @@ returns-in_err-run_tick-clause-exact g c =
 pub loop-t-preserved : goal.loop-t-preserved
 loop-t-preserved g c =
     let w : World = world_by g.P.Policy.meaning g.M.Preemption.cuts c.args.sheet.now c.args.mode in
-    let is : moment_of c.run_tick.new.machine ≡ moment_after w (c.loop-t.t + 1) = rw add-one c.in_ok-run_tick.ensures.moment in
-    let kept : IsKept w.policy w.cuts w.sheet (c.loop-t.t + 1) c.run_tick.new.machine = rw add-one c.in_ok-run_tick.ensures.kept in
+    let is : moment_of c.run_tick.new.simulation ≡ moment_after w (c.loop-t.t + 1) = rw add-one c.in_ok-run_tick.ensures.moment in
+    let kept : IsKept w.policy w.cuts w.sheet (c.loop-t.t + 1) c.run_tick.new.simulation = rw add-one c.in_ok-run_tick.ensures.kept in
     record { moment = is; kept = kept }
 
 pub returns : goal.returns
 returns g c =
     let w : World = world_by g.P.Policy.meaning g.M.Preemption.cuts c.args.sheet.now c.args.mode in
-    let m = c.loop-t.machine in
+    let m = c.loop-t.simulation in
     let sbf = g.S.Supply.sbf c.args.supply.now in
     let run : Run = record { jobs = c.new.result; ticks = c.new-2.result } in
     let here : run ≡ run_of m = run_is (run_of m) c.new.result c.new-2.result c.new.ensures c.new-2.ensures in
@@ -40,7 +40,7 @@ returns g c =
     let sheet = c.args.sheet.now in
     let n = c.args.n in
     let kept = c.loop-t.invariant.kept.jobs in
-    let valid = c.in_ok-machine.ensures.valid in
+    let valid = c.in_ok-simulation.ensures.valid in
     record {
       exact = simulated (world_of w.policy w.cuts sbf w.sheet w.mode) c.args.n run is (subst (λ (r : Run). refused_by r.jobs ≡ None) (sym here) kept.within.none);
       complies = subst (IsCompliant w.policy w.cuts sbf w.sheet) (sym is) (c.simulation_complies.ensures c.args.supply.now c.known.ensures w.sheet valid c.requires.served w.mode c.args.n);

@@ -1,6 +1,6 @@
 use Rattle.std.proofs.Common.{◌≡◌, ◌∙◌, length, arith}
 use Rattle.simulated_run.specs.SimulatedRun.{World}
-use Rattle.simulator.specs.Kept.{world_by}
+use Rattle.simulator.specs.SimulationState.{world_by}
 use Rattle.simulator.proofs.SimulationFacts.{kept_first, no_run_is, first_moment}
 use Rattle.simulator.proofs.running.start.Goals as goal
 

@@ -73,7 +73,8 @@ pub segments_most : (seed n t : ℕ) (run : Run) → IsEarlyRun seed n t run →
 segments_most seed n t run ok = sum_by_most (λ (j : Job). length j.segs) no_job 50 run.jobs (job_few seed n t run ok)
 
 -- the simulated run of t ticks has the jobs of t ticks
-pub run_early : (seed n t : ℕ) (mode : Mode) → 1 ≤ n → n ≤ 64 → IsEarlyRun seed n t (simulated_run (world_of edf_meaning per_task_meaning (λ d. d) (generated_sheet seed n) mode) t)
+pub run_early : (seed n t : ℕ) (mode : Mode) → 1 ≤ n → n ≤ 64 →
+    IsEarlyRun seed n t (simulated_run (world_of edf_meaning per_task_meaning (λ d. d) (generated_sheet seed n) mode) t)
 unfolding simulated_run
 run_early seed n t mode some few =
     let valid : IsValidSheet (generated_sheet seed n) = sheet_valid seed n some few in

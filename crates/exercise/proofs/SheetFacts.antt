@@ -59,7 +59,8 @@ sheet_valid seed n some few =
     }
 
 -- the task that two words make
-task_drawn : (seed n i state middle scale cost : ℕ) → state ≡ after (2 * i) seed → middle ≡ next state → scale ≡ 1 + word state % 50 → cost ≡ 1 + word middle % scale →
+task_drawn : (seed n i state middle scale cost : ℕ) → state ≡ after (2 * i) seed → middle ≡ next state →
+    scale ≡ 1 + word state % 50 → cost ≡ 1 + word middle % scale →
     task_by i (2 * n * scale) cost ≡ generated_task seed n i
 unfolding generated_task period_of cost_of scale_of
 task_drawn seed n i state middle scale cost s m first second =
@@ -67,7 +68,8 @@ task_drawn seed n i state middle scale cost s m first second =
     rw (second, one, first, s) refl
 
 -- one task more
-pub task_more : (seed n i state middle scale cost : ℕ) (task : Task) (before now : List Task) → state ≡ after (2 * i) seed → middle ≡ next state → scale ≡ 1 + word state % 50 → cost ≡ 1 + word middle % scale →
+pub task_more : (seed n i state middle scale cost : ℕ) (task : Task) (before now : List Task) →
+    state ≡ after (2 * i) seed → middle ≡ next state → scale ≡ 1 + word state % 50 → cost ≡ 1 + word middle % scale →
     task ≡ task_by i (2 * n * scale) cost → before ≡ first_tasks seed n i → now ≡ before ++ task ∷ [] → now ≡ first_tasks seed n (i + 1)
 task_more seed n i state middle scale cost task before now s m first second e b more =
     let whole : task ≡ generated_task seed n i = e ∙ task_drawn seed n i state middle scale cost s m first second in

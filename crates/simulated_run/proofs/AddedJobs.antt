@@ -24,7 +24,8 @@ module _ (w : World) (laws : IsLawful w) (t : ℕ) (run : Run) (sound : IsSound 
   released_last k b = omega (arith, sound.prompt k b, sound.early k b)
 
   -- what holds of the jobs so far, and of the new one
-  each : (P : ℕ → Job → Type 0) → ((k : ℕ) → k < length run.jobs → P k (job_at run k)) → P (length run.jobs) j → (k : ℕ) → k < length (with_job run j).jobs → P k (job_at (with_job run j) k)
+  each : (P : ℕ → Job → Type 0) → ((k : ℕ) → k < length run.jobs → P k (job_at run k)) → P (length run.jobs) j →
+      (k : ℕ) → k < length (with_job run j).jobs → P k (job_at (with_job run j) k)
   each P old new k b = elim (cases_lt k (length run.jobs)) [
     | inl c ↦ subst (P k) (sym (job_kept run j k c)) (old k c)
     | inr c ↦

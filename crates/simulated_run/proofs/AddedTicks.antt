@@ -27,7 +27,8 @@ pub record MayFollow (w : World) (t : ℕ) (run : Run) (y : Tick) : Type 0 where
   pub idle : y ≡ Idle → (k : ℕ) → IsPending run k t → ⊥
   pub inside : y ≢ Off → (k : ℕ) → k < length run.jobs → can_cut w.cuts w.sheet run k t ≡ false → y ≡ Runs k
   pub may_run : (k : ℕ) → y ≡ Runs k → MayRun run k t
-  pub policy : (k n : ℕ) → y ≡ Runs k → can_cut w.cuts w.sheet run k t ≡ true → IsPending run n t → key_le (w.policy.key w.sheet (job_at run k)) (w.policy.key w.sheet (job_at run n)) ≡ true
+  pub policy : (k n : ℕ) → y ≡ Runs k → can_cut w.cuts w.sheet run k t ≡ true → IsPending run n t →
+      key_le (w.policy.key w.sheet (job_at run k)) (w.policy.key w.sheet (job_at run n)) ≡ true
 
 module _ (w : World) (laws : IsLawful w) (t : ℕ) (run : Run) (sound : IsSound w t run) where
   cut_laws : (k : ℕ) → k < length run.jobs → IsLawfulCut w.cuts (task_at w.sheet (job_at run k).task)
@@ -59,7 +60,8 @@ module _ (w : World) (laws : IsLawful w) (t : ℕ) (run : Run) (sound : IsSound 
     policy = λ i n e cut p. (let s : k ≡ i = cc in let g = subst (λ v. can_cut w.cuts w.sheet run v t ≡ true) (sym s) cut in absurd (cc));
   }
 
-  follows_urgent : (k : ℕ) → k < length run.jobs → is_pending run k t ≡ true → most_urgent w run t ≡ Some k → ((i : ℕ) → i < length run.jobs → can_cut w.cuts w.sheet run i t ≡ true) → MayFollow w t run (Runs k)
+  follows_urgent : (k : ℕ) → k < length run.jobs → is_pending run k t ≡ true → most_urgent w run t ≡ Some k →
+      ((i : ℕ) → i < length run.jobs → can_cut w.cuts w.sheet run i t ≡ true) → MayFollow w t run (Runs k)
   unfolding most_urgent
   follows_urgent k b p is cuts =
       let is_first : (i : ℕ) → IsPending run i t → comes_before w run i k ≡ false = λ i q. best_first (λ i. is_pending run i t) (comes_before w run) (length run.jobs) k i (comes_chain w run) (comes_itself w run) is q.listed (pending_to run i t q) in
@@ -114,7 +116,8 @@ module _ (w : World) (laws : IsLawful w) (t : ℕ) (run : Run) (sound : IsSound 
 
   module _ (y : Tick) (follows : MayFollow w t run y) where
     -- what holds at the ticks so far, and at the new one
-    at_each : (P : ℕ → Tick → Type 0) → ((u : ℕ) → u < length run.ticks → P u (tick_at run u)) → P t y → (u : ℕ) → u < length (with_tick run y).ticks → P u (tick_at (with_tick run y) u)
+    at_each : (P : ℕ → Tick → Type 0) → ((u : ℕ) → u < length run.ticks → P u (tick_at run u)) → P t y → (u : ℕ) →
+        u < length (with_tick run y).ticks → P u (tick_at (with_tick run y) u)
     at_each P old new u b = elim (cases_lt u t) [
       | inl c ↦ subst (P u) (sym (tick_kept run y u (omega (arith, sound.now)))) (old u (omega (arith, sound.now)))
       | inr c ↦
@@ -145,7 +148,8 @@ module _ (w : World) (laws : IsLawful w) (t : ℕ) (run : Run) (sound : IsSound 
     cut_same k u h = ap (w.cuts.cuttable (task_at w.sheet (job_at run k).task) (job_at run k)) (same k u h)
 
     -- not cut after the tick: the job that runs, or not cut before it
-    after_tick : (k : ℕ) → k < length run.jobs → can_cut w.cuts w.sheet (with_tick run y) k (suc t) ≡ false → (y ≡ Runs k) ⊎ (can_cut w.cuts w.sheet run k t ≡ false)
+    after_tick : (k : ℕ) → k < length run.jobs → can_cut w.cuts w.sheet (with_tick run y) k (suc t) ≡ false →
+        (y ≡ Runs k) ⊎ (can_cut w.cuts w.sheet run k t ≡ false)
     unfolding with_tick
     after_tick k b f = elim (cases_Bool (runs k y)) [
       | inl r ↦ inl (runs_tells k y r)
@@ -188,7 +192,8 @@ module _ (w : World) (laws : IsLawful w) (t : ℕ) (run : Run) (sound : IsSound 
     unfolding with_tick
     old_job k b = b
 
-    old_keys : (k n : ℕ) → key_le (w.policy.key w.sheet (job_at run k)) (w.policy.key w.sheet (job_at run n)) ≡ true → key_le (w.policy.key w.sheet (job_at (with_tick run y) k)) (w.policy.key w.sheet (job_at (with_tick run y) n)) ≡ true
+    old_keys : (k n : ℕ) → key_le (w.policy.key w.sheet (job_at run k)) (w.policy.key w.sheet (job_at run n)) ≡ true →
+        key_le (w.policy.key w.sheet (job_at (with_tick run y) k)) (w.policy.key w.sheet (job_at (with_tick run y) n)) ≡ true
     unfolding with_tick
     old_keys k n h = h
 
@@ -223,14 +228,19 @@ module _ (w : World) (laws : IsLawful w) (t : ℕ) (run : Run) (sound : IsSound 
     may_run_there : (k u : ℕ) → u ≤ t → MayRun run k u → MayRun (with_tick run y) k u
     may_run_there k u h m = record { pending = there k u h m.pending; in_order = λ n b same less. done_there n u h (m.in_order n (old_job n b) (old_task n k same) (old_arrival n k less)) }
 
-    sound_ahead : (k n : ℕ) → k < length (with_tick run y).jobs → n < length (with_tick run y).jobs → 0 < service_of (with_tick run y) k (suc t) → (job_at (with_tick run y) n).task ≡ (job_at (with_tick run y) k).task → (job_at (with_tick run y) n).arrival < (job_at (with_tick run y) k).arrival → IsDone (with_tick run y) n (suc t)
+    sound_ahead : (k n : ℕ) → k < length (with_tick run y).jobs → n < length (with_tick run y).jobs →
+        0 < service_of (with_tick run y) k (suc t) →
+        (job_at (with_tick run y) n).task ≡ (job_at (with_tick run y) k).task →
+        (job_at (with_tick run y) n).arrival < (job_at (with_tick run y) k).arrival → IsDone (with_tick run y) n (suc t)
     unfolding with_tick
     sound_ahead k n b c p q less = elim (cases_Bool (runs k y)) [
       | inl r ↦ omega (arith, (follows.may_run k (runs_tells k y r)).in_order n c q less, grows n)
       | inr r ↦ omega (arith, sound.ahead k n b c (omega (arith, p, service_new run y k t sound.now, ap (λ (b : Bool). cond {A = ℕ} b 1 0) r)) q less, grows n)
     ]
 
-    sound_single : (k n : ℕ) → k < length (with_tick run y).jobs → n < length (with_tick run y).jobs → can_cut w.cuts w.sheet (with_tick run y) k (suc t) ≡ false → can_cut w.cuts w.sheet (with_tick run y) n (suc t) ≡ false → k ≡ n
+    sound_single : (k n : ℕ) → k < length (with_tick run y).jobs → n < length (with_tick run y).jobs →
+        can_cut w.cuts w.sheet (with_tick run y) k (suc t) ≡ false →
+        can_cut w.cuts w.sheet (with_tick run y) n (suc t) ≡ false → k ≡ n
     sound_single k n b c f g = elim (after_tick k (old_job k b) f) [
       | inl r ↦ elim (after_tick n (old_job n c) g) [
         | inl s ↦ cc

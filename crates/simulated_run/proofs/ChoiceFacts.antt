@@ -37,7 +37,8 @@ module _ (w : World) (run : Run) (t : ℕ) where
   inside_none e = (first_never (λ k. can_cut w.cuts w.sheet run k t) (length run.jobs) e).all
 
   -- the one job that cannot be cut
-  pub some_inside : (k : ℕ) → k < length run.jobs → can_cut w.cuts w.sheet run k t ≡ false → ((n : ℕ) → n < length run.jobs → n ≢ k → can_cut w.cuts w.sheet run n t ≡ true) → inside_segment w run t ≡ Some k
+  pub some_inside : (k : ℕ) → k < length run.jobs → can_cut w.cuts w.sheet run k t ≡ false →
+      ((n : ℕ) → n < length run.jobs → n ≢ k → can_cut w.cuts w.sheet run n t ≡ true) → inside_segment w run t ≡ Some k
   unfolding inside_segment
   some_inside k b f others = first_some (λ k. can_cut w.cuts w.sheet run k t) k (length run.jobs) b f (λ n h. others n (omega arith) (λ e. omega arith))
 

@@ -105,7 +105,8 @@ job_of o t cost segments = record { task = o; arrival = t; release = t; cost = c
 floats : (o t bound cost : ℕ) → 1 ≤ bound → segments_fit (Floating bound) (job_of o t cost (floating_segments bound cost)) ≡ true
 floats o t bound cost low = and_from _ _ (floating_within bound cost low) (eq-eqb _ _ (floating_sum bound cost low))
 
-segments_by_fit : (mode : Mode) (cut : Cut) (cost o t state : ℕ) → CutFits cost cut → segments_fit cut (job_of o t (cost_by mode cut cost state) (segments_by mode cut (cost_by mode cut cost state) state)) ≡ true
+segments_by_fit : (mode : Mode) (cut : Cut) (cost o t state : ℕ) → CutFits cost cut →
+    segments_fit cut (job_of o t (cost_by mode cut cost state) (segments_by mode cut (cost_by mode cut cost state) state)) ≡ true
 segments_by_fit Dense Full cost o t state f = refl
 segments_by_fit Dense Never cost o t state f = refl
 segments_by_fit Dense (Fixed segments) cost o t state f = and_from _ _ (each_itself segments) (eq-eqb _ _ f.1)

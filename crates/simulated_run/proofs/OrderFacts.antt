@@ -58,7 +58,8 @@ by_key_is p q u v b r h = grind (arith, ints)
 abbrev key_of : Place → Key
 key_of a = record { high = a.high; low = a.low }
 
-place_is : (a b : Place) → (not (key_le (key_of b) (key_of a)) || (key_le (key_of a) (key_of b) && by_number (a.task, a.arrival, a.number) (b.task, b.arrival, b.number))) ≡ is_lt (place_cmp a b)
+place_is : (a b : Place) →
+    (not (key_le (key_of b) (key_of a)) || (key_le (key_of a) (key_of b) && by_number (a.task, a.arrival, a.number) (b.task, b.arrival, b.number))) ≡ is_lt (place_cmp a b)
 place_is a b =
     by_key_is a.high b.high a.low b.low (by_number (a.task, a.arrival, a.number) (b.task, b.arrival, b.number)) (ordering_then (nat_cmp a.task b.task) (ordering_then (nat_cmp a.arrival b.arrival) (nat_cmp a.number b.number)))
     (by_number_is a.task a.arrival a.number b.task b.arrival b.number)
@@ -104,6 +105,9 @@ module _ (w : World) (run : Run) where
   later_key k n h = not_left _ _ h
 
   -- of one task's jobs whose keys do not say otherwise, who arrived earlier comes before
-  pub earlier_first : (k n : ℕ) → key_le (w.policy.key w.sheet (job_at run k)) (w.policy.key w.sheet (job_at run n)) ≡ true → (job_at run k).task ≡ (job_at run n).task → (job_at run k).arrival < (job_at run n).arrival → comes_before w run k n ≡ true
+  pub earlier_first : (k n : ℕ) →
+      key_le (w.policy.key w.sheet (job_at run k)) (w.policy.key w.sheet (job_at run n)) ≡ true →
+      (job_at run k).task ≡ (job_at run n).task → (job_at run k).arrival < (job_at run n).arrival →
+      comes_before w run k n ≡ true
   unfolding comes_before
   earlier_first k n le same earlier = or_right _ _ (and_from _ _ le (number_first (job_at run k).task (job_at run n).task (job_at run k).arrival (job_at run n).arrival k n same earlier))

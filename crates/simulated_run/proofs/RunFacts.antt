@@ -26,17 +26,22 @@ cond_le : (b c : Bool) → (b ≡ true → c ≡ true) → cond {A = ℕ} b 1 0 
 cond_le true c h = rw (h refl) (omega arith)
 cond_le false c h = omega arith
 
-front_le : {X : Type 0} (p q : X → Bool) (xs : List X) (d : X) (n : ℕ) → n ≤ length xs → ((k : ℕ) → k < n → p (get_or xs k d) ≡ true → q (get_or xs k d) ≡ true) → count_by p (take n xs) ≤ count_by q (take n xs)
+front_le : {X : Type 0} (p q : X → Bool) (xs : List X) (d : X) (n : ℕ) → n ≤ length xs →
+    ((k : ℕ) → k < n → p (get_or xs k d) ≡ true → q (get_or xs k d) ≡ true) →
+    count_by p (take n xs) ≤ count_by q (take n xs)
 front_le p q xs d zero h e = omega arith
 front_le p q xs d (suc n) h e =
     omega (arith, front_le p q xs d n (omega arith) (λ k b. e k (omega arith)), count_more p xs d n (omega arith), count_more q xs d n (omega arith), cond_le (p (get_or xs n d)) (q (get_or xs n d)) (e n (omega arith)))
 
-count_le : {X : Type 0} (p q : X → Bool) (xs : List X) (d : X) → ((k : ℕ) → k < length xs → p (get_or xs k d) ≡ true → q (get_or xs k d) ≡ true) → count_by p xs ≤ count_by q xs
+count_le : {X : Type 0} (p q : X → Bool) (xs : List X) (d : X) →
+    ((k : ℕ) → k < length xs → p (get_or xs k d) ≡ true → q (get_or xs k d) ≡ true) → count_by p xs ≤ count_by q xs
 count_le {X} p q xs d e =
     omega (arith, front_le p q xs d (length xs) (omega arith) e, ap (λ (l : List X). count_by p l) (take_all (length xs) xs (omega arith)), ap (λ (l : List X). count_by q l) (take_all (length xs) xs (omega arith)))
 
 -- a window that takes in all arrivals of the other has no fewer
-pub arrivals_le : (run : Run) (o s u a b : ℕ) → ((k : ℕ) → k < length run.jobs → arrives_in o s u (job_at run k) ≡ true → arrives_in o a b (job_at run k) ≡ true) → arrivals_of run o s u ≤ arrivals_of run o a b
+pub arrivals_le : (run : Run) (o s u a b : ℕ) →
+    ((k : ℕ) → k < length run.jobs → arrives_in o s u (job_at run k) ≡ true → arrives_in o a b (job_at run k) ≡ true) →
+    arrivals_of run o s u ≤ arrivals_of run o a b
 unfolding arrivals_of
 arrivals_le run o s u a b e = count_le (arrives_in o s u) (arrives_in o a b) run.jobs no_job e
 
@@ -110,7 +115,8 @@ module _ (run : Run) (x : Tick) where
       ap (λ (l : List Tick). count_by test (take d l)) e ∙ ap (λ (l : List Tick). count_by test l) (take-append-le d (drop a run.ticks) (x ∷ []) (simp length-drop (omega arith)))
 
   -- one that ends with it
-  pub window_new : (test : Tick → Bool) (a d : ℕ) → a + d ≡ length run.ticks → ticks_in test (with_tick run x) a (suc d) ≡ ticks_in test run a d + cond (test x) 1 0
+  pub window_new : (test : Tick → Bool) (a d : ℕ) → a + d ≡ length run.ticks →
+      ticks_in test (with_tick run x) a (suc d) ≡ ticks_in test run a d + cond (test x) 1 0
   unfolding with_tick ticks_in
   window_new test a d h =
       let e : drop a (run.ticks ++ x ∷ []) ≡ drop a run.ticks ++ x ∷ [] = drop-append-le a run.ticks (x ∷ []) (omega arith) in

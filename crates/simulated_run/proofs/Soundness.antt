@@ -26,7 +26,8 @@ pub record IsSound (w : World) (t : ℕ) (run : Run) : Type 0 where
   pub prompt : IsPrompt run
   pub complies : IsCompliant w.policy w.cuts w.sbf w.sheet run
   -- where a job has run, the jobs of its task that arrived earlier are done
-  pub ahead : (k n : ℕ) → k < length run.jobs → n < length run.jobs → 0 < service_of run k t → (job_at run n).task ≡ (job_at run k).task → (job_at run n).arrival < (job_at run k).arrival → IsDone run n t
+  pub ahead : (k n : ℕ) → k < length run.jobs → n < length run.jobs → 0 < service_of run k t →
+      (job_at run n).task ≡ (job_at run k).task → (job_at run n).arrival < (job_at run k).arrival → IsDone run n t
   -- at most one job is inside a segment
   pub single : (k n : ℕ) → k < length run.jobs → n < length run.jobs → can_cut w.cuts w.sheet run k t ≡ false → can_cut w.cuts w.sheet run n t ≡ false → k ≡ n
 

@@ -54,7 +54,8 @@ pub record IsAmid (w : World) (o t n : ℕ) (run : Run) : Type 0 where
   pub left : HasRoom w o t n run
   pub fresh : IsFresh (suc o) t run
 
-past_tick : (t : ℕ) (run : Run) (y : Tick) → ((k : ℕ) → k < length run.jobs → (job_at run k).arrival ≤ t) → (k : ℕ) → k < length (with_tick run y).jobs → (job_at (with_tick run y) k).arrival < suc t
+past_tick : (t : ℕ) (run : Run) (y : Tick) → ((k : ℕ) → k < length run.jobs → (job_at run k).arrival ≤ t) → (k : ℕ) →
+    k < length (with_tick run y).jobs → (job_at (with_tick run y) k).arrival < suc t
 unfolding with_tick
 past_tick t run y early k b = omega (arith, early k b)
 
@@ -68,7 +69,8 @@ module _ (w : World) (laws : IsLawful w) where
   by_off false a b = b
 
   -- as many jobs as are allowed have room
-  pub allowed_has_room : (o t : ℕ) (run : Run) → o < length w.sheet.tasks → IsSound w t run → IsFresh o t run → HasRoom w o t (allowance_of (task_at w.sheet o).curve o run t) run
+  pub allowed_has_room : (o t : ℕ) (run : Run) → o < length w.sheet.tasks → IsSound w t run → IsFresh o t run →
+      HasRoom w o t (allowance_of (task_at w.sheet o).curve o run t) run
   unfolding allowance_of
   allowed_has_room o t run b sound fresh =
       let curve = (task_at w.sheet o).curve in

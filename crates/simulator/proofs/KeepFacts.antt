@@ -28,7 +28,8 @@ use Rattle.simulator.proofs.QueueFacts.{queue_push, Tells}
 
 -- the job inside a segment
 
-only_more : (cut new : ℕ → Bool) (n m : ℕ) (x : Option ℕ) → m ≡ suc n → ((k : ℕ) → k < n → new k ≡ cut k) → new n ≡ true → OnlyInside cut n x → OnlyInside new m x
+only_more : (cut new : ℕ → Bool) (n m : ℕ) (x : Option ℕ) → m ≡ suc n → ((k : ℕ) → k < n → new k ≡ cut k) →
+    new n ≡ true → OnlyInside cut n x → OnlyInside new m x
 only_more cut new n m None e same last h = λ k b. elim (cases_lt k n) [
   | inl c ↦ same k c ∙ h k c
   | inr c ↦ let at : n ≡ k = omega arith in subst (λ w. new w ≡ true) at last
@@ -51,7 +52,8 @@ others_cut cut n None j k h can b ne = h k b
 others_cut cut n (Some i) j k h can b ne = h.2 k b (λ e. ne (e ∙ sym can))
 
 -- where job j ran, at most j is inside a segment
-only_ran : (cut new : ℕ → Bool) (n j : ℕ) (x : Option ℕ) → j < n → CanRun x j → ((k : ℕ) → k < n → k ≢ j → new k ≡ cut k) → OnlyInside cut n x → OnlyInside new n (cond (new j) None (Some j))
+only_ran : (cut new : ℕ → Bool) (n j : ℕ) (x : Option ℕ) → j < n → CanRun x j →
+    ((k : ℕ) → k < n → k ≢ j → new k ≡ cut k) → OnlyInside cut n x → OnlyInside new n (cond (new j) None (Some j))
 only_ran cut new n j x b can same h = elim (cases_Bool (new j)) [
   | inl e ↦ subst (λ (w : Bool). OnlyInside new n (cond w None (Some j))) (sym e) (λ k c. elim (cases_eq k j) [ inl at ↦ subst (λ w. new w ≡ true) (sym at) e | inr ne ↦ same k c ne ∙ others_cut cut n x j k h can c ne ])
   | inr e ↦ subst (λ (w : Bool). OnlyInside new n (cond w None (Some j))) (sym e) (b, e, (λ k c ne. same k c ne ∙ others_cut cut n x j k h can c ne))
@@ -72,7 +74,9 @@ module _ (p : PolicyMeaning) (m : CutMeaning) (sheet : SheetParts) (t : ℕ) (ru
   unserved : (k : ℕ) → length run.jobs ≤ k → service_of run k t ≡ 0
   unserved k h = service_unlisted run (length run.jobs) k t (omega (arith, kept.now)) (λ u i b e. kept.listed u i b e) h
 
-  pub kept_job : (after : BTreeMap Rank ℕ) (j : Job) (n : ℕ) → n ≡ length run.jobs → IsKnown m sheet t j → 1 ≤ j.cost → m.cuttable (task_at sheet j.task) j 0 ≡ true → length run.jobs < 20000 → segments_of run.jobs + length j.segs ≤ 1000000
+  pub kept_job : (after : BTreeMap Rank ℕ) (j : Job) (n : ℕ) → n ≡ length run.jobs → IsKnown m sheet t j → 1 ≤ j.cost →
+      m.cuttable (task_at sheet j.task) j 0 ≡ true → length run.jobs < 20000 →
+      segments_of run.jobs + length j.segs ≤ 1000000
       → Updates rank_cmp queue after (rank_at p sheet j n) (Some n) → IsKeptAt p m sheet t (with_job run j) (left ++ j.cost ∷ []) after x
   unfolding with_job service_of
   kept_job after j n len known pos cut few short up = record {
@@ -125,7 +129,9 @@ module _ (p : PolicyMeaning) (m : CutMeaning) (sheet : SheetParts) (t : ℕ) (ru
       }
 
   -- a tick that runs j
-  pub kept_run : (j rest : ℕ) (after : BTreeMap Rank ℕ) (cut : Bool) → j < length run.jobs → CanRun x j → left_at left j ≡ suc rest → IsQueue p sheet run.jobs (set left j rest) after → cut ≡ m.cuttable (task_at sheet (job_at run j).task) (job_at run j) ((job_at run j).cost - rest)
+  pub kept_run : (j rest : ℕ) (after : BTreeMap Rank ℕ) (cut : Bool) → j < length run.jobs → CanRun x j →
+      left_at left j ≡ suc rest → IsQueue p sheet run.jobs (set left j rest) after →
+      cut ≡ m.cuttable (task_at sheet (job_at run j).task) (job_at run j) ((job_at run j).cost - rest)
       → IsKeptAt p m sheet (suc t) (with_tick run (Runs j)) (set left j rest) after (cond cut None (Some j))
   unfolding with_tick
   kept_run j rest after cut b can amount waiting is_cut =
@@ -149,6 +155,7 @@ module _ (p : PolicyMeaning) (m : CutMeaning) (sheet : SheetParts) (t : ℕ) (ru
       }
 
 -- the definition finds the job that the simulation has inside a segment
-pub kept_inside : (w : World) (t : ℕ) (run : Run) (left : List ℕ) (queue : BTreeMap Rank ℕ) (x : Option ℕ) → IsKeptAt w.policy w.cuts w.sheet t run left queue x → inside_segment w run t ≡ x
+pub kept_inside : (w : World) (t : ℕ) (run : Run) (left : List ℕ) (queue : BTreeMap Rank ℕ) (x : Option ℕ) →
+    IsKeptAt w.policy w.cuts w.sheet t run left queue x → inside_segment w run t ≡ x
 unfolding inside_segment
 kept_inside w t run left queue x kept = only_first (λ k. can_cut w.cuts w.sheet run k t) (length run.jobs) x kept.segment

@@ -85,7 +85,10 @@ module _ (p : PolicyMeaning) (sheet : SheetParts) where
   rank_kept jobs j k h = ap (λ (x : Job). rank_at p sheet x k) (get_or_append_left jobs (j ∷ []) no_job k h)
 
   -- a new job
-  pub queue_push : (jobs : List Job) (left : List ℕ) (queue after : BTreeMap Rank ℕ) (j : Job) (c n : ℕ) → length jobs ≡ n → length left ≡ n → 0 < c → IsQueue p sheet jobs left queue → Updates rank_cmp queue after (rank_at p sheet j n) (Some n) → IsQueue p sheet (jobs ++ j ∷ []) (left ++ c ∷ []) after
+  pub queue_push : (jobs : List Job) (left : List ℕ) (queue after : BTreeMap Rank ℕ) (j : Job) (c n : ℕ) →
+      length jobs ≡ n → length left ≡ n → 0 < c → IsQueue p sheet jobs left queue →
+      Updates rank_cmp queue after (rank_at p sheet j n) (Some n) →
+      IsQueue p sheet (jobs ++ j ∷ []) (left ++ c ∷ []) after
   queue_push jobs left queue after j c n lj ll pos q up =
       let r : Rank = rank_at p sheet j n in
       let of_new : r ≡ rank_of p sheet (jobs ++ j ∷ []) n = ap (λ (x : Job). rank_at p sheet x n) (sym (get_or_at jobs j [] no_job n lj)) in
@@ -114,7 +117,8 @@ module _ (p : PolicyMeaning) (sheet : SheetParts) where
       }
 
   -- a job goes on
-  pub queue_run : (jobs : List Job) (left : List ℕ) (queue : BTreeMap Rank ℕ) (i c : ℕ) → i < length left → 0 < left_at left i → 0 < c → IsQueue p sheet jobs left queue → IsQueue p sheet jobs (set left i c) queue
+  pub queue_run : (jobs : List Job) (left : List ℕ) (queue : BTreeMap Rank ℕ) (i c : ℕ) → i < length left →
+      0 < left_at left i → 0 < c → IsQueue p sheet jobs left queue → IsQueue p sheet jobs (set left i c) queue
   queue_run jobs left queue i c b l pos q = record {
     sound = λ s k h. (
         let old : IsEntry p sheet jobs left s k = q.sound s k h in
@@ -124,7 +128,9 @@ module _ (p : PolicyMeaning) (sheet : SheetParts) where
   }
 
   -- a job is done
-  pub queue_done : (jobs : List Job) (left : List ℕ) (queue after : BTreeMap Rank ℕ) (i : ℕ) → i < length left → IsQueue p sheet jobs left queue → Updates rank_cmp queue after (rank_of p sheet jobs i) None → IsQueue p sheet jobs (set left i 0) after
+  pub queue_done : (jobs : List Job) (left : List ℕ) (queue after : BTreeMap Rank ℕ) (i : ℕ) → i < length left →
+      IsQueue p sheet jobs left queue → Updates rank_cmp queue after (rank_of p sheet jobs i) None →
+      IsQueue p sheet jobs (set left i 0) after
   queue_done jobs left queue after i b q up = record {
     sound = λ s k h. elim (cases_Bool (is_at (rank_cmp (rank_of p sheet jobs i)) s)) [
       | inl e ↦

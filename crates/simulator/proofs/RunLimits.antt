@@ -48,7 +48,8 @@ tick_of n Off h = tt
 tick_of n Idle h = tt
 tick_of n (Runs k) h = h k refl
 
-known_job : (m : CutMeaning) (sheet : SheetParts) (t : ℕ) (j : Job) → IsValidSheet sheet → ((o : ℕ) → o < length sheet.tasks → IsTabledCut m (task_at sheet o)) → t ≤ 100000 → IsKnown m sheet t j → IsJob j
+known_job : (m : CutMeaning) (sheet : SheetParts) (t : ℕ) (j : Job) → IsValidSheet sheet →
+    ((o : ℕ) → o < length sheet.tasks → IsTabledCut m (task_at sheet o)) → t ≤ 100000 → IsKnown m sheet t j → IsJob j
 known_job m sheet t j valid tabled h known = record {
   task = omega (arith, known.task, valid.few);
   arrival = omega (arith, known.arrived);
@@ -56,7 +57,9 @@ known_job m sheet t j valid tabled h known = record {
   segs = cut_segments (task_at sheet j.task).cut j (and_parts (is_between 1 (task_at sheet j.task).cost j.cost) _ (sym ((tabled j.task known.task).same_fits j) ∙ known.fits)).1 known.cost;
 }
 
-pub kept_within : (p : PolicyMeaning) (m : CutMeaning) (sheet : SheetParts) (t : ℕ) (run : Run) (left : List ℕ) (queue : BTreeMap Rank ℕ) (x : Option ℕ) → IsKeptAt p m sheet t run left queue x → IsValidSheet sheet → ((o : ℕ) → o < length sheet.tasks → IsTabledCut m (task_at sheet o)) → t ≤ 100000 → IsWithinLimits run
+pub kept_within : (p : PolicyMeaning) (m : CutMeaning) (sheet : SheetParts) (t : ℕ) (run : Run) (left : List ℕ) (queue : BTreeMap Rank ℕ) (x : Option ℕ) →
+    IsKeptAt p m sheet t run left queue x → IsValidSheet sheet →
+    ((o : ℕ) → o < length sheet.tasks → IsTabledCut m (task_at sheet o)) → t ≤ 100000 → IsWithinLimits run
 kept_within p m sheet t run left queue x kept valid tabled h = record {
   few_jobs = kept.within.few_jobs;
   few_ticks = omega (arith, kept.now);

@@ -74,7 +74,8 @@ module _ (w : World) (cuts : HasCuts w) (t : ℕ) (m : Simulation) (kept : IsKep
 
 -- after a job has run
 
-pub run_kept : (p : PolicyMeaning) (m : CutMeaning) (sheet : SheetParts) (t : ℕ) (run : Run) (left : List ℕ) (queue : BTreeMap Rank ℕ) (x : Option ℕ) → IsKeptAt p m sheet t run left queue x
+pub run_kept : (p : PolicyMeaning) (m : CutMeaning) (sheet : SheetParts) (t : ℕ) (run : Run) (left : List ℕ) (queue : BTreeMap Rank ℕ) (x : Option ℕ) →
+    IsKeptAt p m sheet t run left queue x
     → (j rest : ℕ) (v : Job) (k : Task) (after : BTreeMap Rank ℕ) (r : Rank) (cut : Bool) (y : Option ℕ) → j < length run.jobs → 0 < left_at left j → CanRun x j → rest ≡ left_at left j - 1
     → v ≡ job_at run j → k ≡ task_at sheet v.task → r ≡ rank_at p sheet v j → (rest ≡ 0 → Updates rank_cmp queue after r None) → (0 < rest → after ≡ queue) → cut ≡ m.cuttable k v (v.cost - rest) → y ≡ cond cut None (Some j) → IsKeptAt p m sheet (suc t) (with_tick run (Runs j)) (set left j rest) after y
 run_kept p m sheet t run left queue x kept j rest v k after r cut y b waits can amount is_v is_k is_r done stays is_cut is_y =
@@ -90,17 +91,21 @@ run_kept p m sheet t run left queue x kept j rest v k after r cut y b waits can 
     ] in
     subst (λ (i : Option ℕ). IsKeptAt p m sheet (suc t) (with_tick run (Runs j)) (set left j rest) after i) (sym is_y) (kept_run p m sheet t run left queue x kept j rest after cut b can (omega arith) waiting tested)
 
-pub idle_kept : (p : PolicyMeaning) (m : CutMeaning) (sheet : SheetParts) (t : ℕ) (run : Run) (left : List ℕ) (queue : BTreeMap Rank ℕ) (x : Option ℕ) → IsKeptAt p m sheet t run left queue x
+pub idle_kept : (p : PolicyMeaning) (m : CutMeaning) (sheet : SheetParts) (t : ℕ) (run : Run) (left : List ℕ) (queue : BTreeMap Rank ℕ) (x : Option ℕ) →
+    IsKeptAt p m sheet t run left queue x
     → (y : Tick) → ((k : ℕ) → y ≡ Runs k → ⊥) → IsKeptAt p m sheet (suc t) (with_tick run y) left queue x
 idle_kept p m sheet t run left queue x kept y ne = kept_tick p m sheet t run left queue x kept y (λ k. false_from_ne_true _ (λ e. ne k (runs_tells k y e))) ne
 
 -- the tick as a whole
 
-pub with_tick_is : (run : Run) (jobs : List Job) (ticks : List Tick) (x : Tick) → jobs ≡ run.jobs → ticks ≡ run.ticks ++ x ∷ [] → (let r : Run = record { jobs = jobs; ticks = ticks } in r) ≡ with_tick run x
+pub with_tick_is : (run : Run) (jobs : List Job) (ticks : List Tick) (x : Tick) → jobs ≡ run.jobs →
+    ticks ≡ run.ticks ++ x ∷ [] → (let r : Run = record { jobs = jobs; ticks = ticks } in r) ≡ with_tick run x
 unfolding with_tick
 with_tick_is run jobs ticks x e f = cc
 
-pub ticked : (w : World) (t : ℕ) (m : Moment) (may off : Bool) (y : Tick) (run : Run) (state : ℕ) → may ≡ may_be_off w.sbf m.run t → off ≡ is_off w.mode may m.state → y ≡ cond off Off (choice w m.run t) → run ≡ with_tick m.run y → state ≡ after_off w.mode may m.state
+pub ticked : (w : World) (t : ℕ) (m : Moment) (may off : Bool) (y : Tick) (run : Run) (state : ℕ) →
+    may ≡ may_be_off w.sbf m.run t → off ≡ is_off w.mode may m.state → y ≡ cond off Off (choice w m.run t) →
+    run ≡ with_tick m.run y → state ≡ after_off w.mode may m.state
     → (let r : Moment = record { run = run; state = state } in r) ≡ add_tick w t m
 unfolding add_tick
 ticked w t m may off y run state e f g h i =
@@ -109,7 +114,8 @@ ticked w t m may off y run state e f g h i =
     let is_run : run ≡ with_tick m.run (cond (is_off w.mode (may_be_off w.sbf m.run t) m.state) Off (choice w m.run t)) = h ∙ ap (with_tick m.run) is_y in
     cc
 
-pub kept_then : (p : PolicyMeaning) (m : CutMeaning) (sheet : SheetParts) (t : ℕ) (run run' : Run) (left left' : List ℕ) (queue queue' : BTreeMap Rank ℕ) (x x' : Option ℕ) (total total' : ℕ) (lists lists' : List (Vec ℕ)) (sums sums' : List ℕ) (y : Tick) (n : ℕ) → IsKeptBy p m sheet t run left queue x total lists sums
+pub kept_then : (p : PolicyMeaning) (m : CutMeaning) (sheet : SheetParts) (t : ℕ) (run run' : Run) (left left' : List ℕ) (queue queue' : BTreeMap Rank ℕ) (x x' : Option ℕ) (total total' : ℕ) (lists lists' : List (Vec ℕ)) (sums sums' : List ℕ) (y : Tick) (n : ℕ) →
+    IsKeptBy p m sheet t run left queue x total lists sums
     → IsKeptAt p m sheet (suc t) (with_tick run y) left' queue' x' → run' ≡ with_tick run y → total' ≡ total → lists' ≡ lists → n ≡ get_or sums t 0 + cond {A = ℕ} (is_on y) 1 0 → sums' ≡ sums ++ n ∷ [] → IsKeptBy p m sheet (suc t) run' left' queue' x' total' lists' sums'
 unfolding with_tick
 kept_then p m sheet t run run' left left' queue queue' x x' total total' lists lists' sums sums' y n kept then is_run is_total is_lists is_n is_sums =

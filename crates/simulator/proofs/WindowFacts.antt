@@ -25,7 +25,9 @@ use Rattle.simulator.specs.SimulationState.{HasArrivals}
 
 -- one more job
 
-own_more : (run : Run) (j : Job) (o : ℕ) (xs : List ℕ) → j.task ≡ o → ((k : ℕ) → k < length run.jobs → (job_at run k).arrival ≤ j.arrival) → AreArrivals run o xs → AreArrivals (with_job run j) o (xs ++ j.arrival ∷ [])
+own_more : (run : Run) (j : Job) (o : ℕ) (xs : List ℕ) → j.task ≡ o →
+    ((k : ℕ) → k < length run.jobs → (job_at run k).arrival ≤ j.arrival) → AreArrivals run o xs →
+    AreArrivals (with_job run j) o (xs ++ j.arrival ∷ [])
 own_more run j o xs e early are = record {
   ascending = IsNonDecreasingBy-push (λ x. x) xs j.arrival are.ascending (λ d some. (
       let last = arrival_job run o xs are (length xs - 1) (omega arith) in
@@ -37,7 +39,10 @@ own_more run j o xs e early are = record {
 other_more : (run : Run) (j : Job) (o : ℕ) (xs : List ℕ) → j.task ≢ o → AreArrivals run o xs → AreArrivals (with_job run j) o xs
 other_more run j o xs ne are = record { ascending = are.ascending; same = lists_other run o xs j ne are.same }
 
-pub has_arrivals_more : (n : ℕ) (run : Run) (lists : List (Vec ℕ)) (j : Job) (longer : Vec ℕ) → HasArrivals n run lists → j.task < n → ((k : ℕ) → k < length run.jobs → (job_at run k).arrival ≤ j.arrival) → longer.items ≡ (get_or lists j.task longer).items ++ j.arrival ∷ [] → HasArrivals n (with_job run j) (set lists j.task longer)
+pub has_arrivals_more : (n : ℕ) (run : Run) (lists : List (Vec ℕ)) (j : Job) (longer : Vec ℕ) →
+    HasArrivals n run lists → j.task < n → ((k : ℕ) → k < length run.jobs → (job_at run k).arrival ≤ j.arrival) →
+    longer.items ≡ (get_or lists j.task longer).items ++ j.arrival ∷ [] →
+    HasArrivals n (with_job run j) (set lists j.task longer)
 has_arrivals_more n run lists j longer has b early e = record {
   tasks = length-set lists j.task longer ∙ has.tasks;
   each = λ o d h. elim (cases_eq o j.task) [
@@ -55,13 +60,16 @@ has_arrivals_more n run lists j longer has b early e = record {
 pub has_arrivals_tick : (n : ℕ) (run : Run) (lists : List (Vec ℕ)) (x : Tick) → HasArrivals n run lists → HasArrivals n (with_tick run x) lists
 has_arrivals_tick n run lists x has = record { tasks = has.tasks; each = λ o d h. record { ascending = (has.each o d h).ascending; same = lists_tick run o (get_or lists o d).items x (has.each o d h).same } }
 
-pub has_no_arrivals : (n : ℕ) (lists : List (Vec ℕ)) → length lists ≡ n → ((o : ℕ) (d : Vec ℕ) → o < n → (get_or lists o d).items ≡ []) → HasArrivals n (record { jobs = []; ticks = [] }) lists
+pub has_no_arrivals : (n : ℕ) (lists : List (Vec ℕ)) → length lists ≡ n →
+    ((o : ℕ) (d : Vec ℕ) → o < n → (get_or lists o d).items ≡ []) →
+    HasArrivals n (record { jobs = []; ticks = [] }) lists
 has_no_arrivals n lists l none =
     let empty : (o : ℕ) → AreArrivals (record { jobs = []; ticks = [] }) o [] = λ o. record { ascending = λ i j d h b. absurd (omega arith); same = lists_none o [] } in
     record { tasks = l; each = λ o d h. subst (AreArrivals (record { jobs = []; ticks = [] }) o) (sym (none o d h)) (empty o) }
 
 -- before the arrivals of task o at t
-pub past_is : (w : World) (o t : ℕ) (run : Run) (xs : List ℕ) → o < length w.sheet.tasks → IsBetween w o t run → AreArrivals run o xs → IsPast (task_at w.sheet o).curve xs t
+pub past_is : (w : World) (o t : ℕ) (run : Run) (xs : List ℕ) → o < length w.sheet.tasks → IsBetween w o t run →
+    AreArrivals run o xs → IsPast (task_at w.sheet o).curve xs t
 past_is w o t run xs b between are = record {
   ascending = are.ascending;
   before = λ i h. (let k = arrival_job run o xs are i h in omega (arith, own_past w o t run between k.0 k.1 k.2.task, k.2.arrival));
@@ -77,7 +85,9 @@ supplied_split run s (suc d) h =
     let front : ticks_in is_on run 0 (suc (s + d)) ≡ ticks_in is_on run 0 (s + d) + cond {A = ℕ} (is_on (tick_at run (s + d))) 1 0 = ticks_in_more is_on run 0 (s + d) (omega arith) ∙ ap (λ (i : ℕ). ticks_in is_on run 0 (s + d) + cond {A = ℕ} (is_on (tick_at run i)) 1 0) z in
     rw add-suc (omega (arith, supplied_split run s d (omega arith), front, ticks_in_more is_on run s d (omega arith)))
 
-pub are_counts_more : (t : ℕ) (run : Run) (counts : List ℕ) (x : Tick) (n : ℕ) → length run.ticks ≡ t → AreCounts run counts t → n ≡ get_or counts t 0 + cond {A = ℕ} (is_on x) 1 0 → AreCounts (with_tick run x) (counts ++ n ∷ []) (suc t)
+pub are_counts_more : (t : ℕ) (run : Run) (counts : List ℕ) (x : Tick) (n : ℕ) → length run.ticks ≡ t →
+    AreCounts run counts t → n ≡ get_or counts t 0 + cond {A = ℕ} (is_on x) 1 0 →
+    AreCounts (with_tick run x) (counts ++ n ∷ []) (suc t)
 are_counts_more t run counts x n now are e = rw add-one at (counts_tick run x counts t n now are e)
 
 -- no count is above its number

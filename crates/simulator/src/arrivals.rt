@@ -7,8 +7,8 @@ ghost use Rattle.simulator.specs.Simulations.{IsRefusal};
 ghost use Rattle.simulator.specs.SimulationState.{IsKept, IsNew, world_by, run_of, moment_of};
 
 use crate::loads::draw_load;
-use crate::simulation::{Simulation, rank_of};
 use crate::refusal::SimRefusal;
+use crate::simulation::{Simulation, rank_of};
 use crate::words::draw_count;
 use lists::Items;
 use policy::Policy;
@@ -70,7 +70,14 @@ fn add_job<P: Policy, M: Tabled>(
     }
     let task = sheet.task(o);
     let spare = MOST_SEGMENTS - simulation.segments;
-    let load = draw_load(alloc, mode, &task.cut, task.cost, spare, &mut simulation.words)?;
+    let load = draw_load(
+        alloc,
+        mode,
+        &task.cut,
+        task.cost,
+        spare,
+        &mut simulation.words,
+    )?;
     let job = Job {
         task: o,
         arrival: t,

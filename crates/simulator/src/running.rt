@@ -13,8 +13,8 @@ ghost use Rattle.simulator.specs.Simulations.{IsSimulation, IsRefusal};
 ghost use Rattle.simulator.specs.SimulationState.{IsKept, world_by, moment_of};
 
 use crate::arrivals::arrive;
-use crate::simulation::Simulation;
 use crate::refusal::SimRefusal;
+use crate::simulation::Simulation;
 use crate::ticks::add_tick;
 use lists::Items;
 use policy::Policy;

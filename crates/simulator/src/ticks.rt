@@ -9,7 +9,7 @@ ghost use Rattle.simulated_run.specs.SimulatedRun.{World, choice, with_tick, arr
 ghost use Rattle.simulator.specs.Ranks.{rank_cmp};
 ghost use Rattle.simulator.specs.SimulationState.{IsKept, IsKeptAt, IsFirstEntry, MayBe, FloatsBy, CanRun, KeepsRest, HasCuts, left_at, world_by, run_of, moment_of};
 
-use crate::simulation::{Simulation, Rank, rank_of};
+use crate::simulation::{Rank, Simulation, rank_of};
 use crate::words::draw_off;
 use policy::Policy;
 use preemption::Tabled;

@@ -98,7 +98,8 @@ module _ (seed tasks : ℕ) (law : PointsBound edf_meaning per_task_meaning (λ 
       let in_range : o < length sheet.tasks = omega (arith, sheet_count seed tasks) in
       let task = meets.tasks o in_range in
       let fits : IsEntry (entry_at holds.cert o) = All-get_or IsEntry holds.cert.entries o no_entry (omega (arith, meets.count)) holds.within.entries in
-      law sheet (sheet_valid seed tasks some few) (λ i l. refl) o (entry_at holds.cert o).window (entry_at holds.cert o).bound (entry_at holds.cert o).points in_range task.window fits.some task.points
+      law sheet (sheet_valid seed tasks some few) (λ i l. refl) o (entry_at holds.cert o).window (entry_at holds.cert o).bound
+      (entry_at holds.cert o).points in_range task.window fits.some task.points
 
   task_below : (o : ℕ) → o < tasks → (entry_at holds.cert o).bound ≤ greatest_by (λ e. e.bound) holds.cert.entries
   task_below o b =

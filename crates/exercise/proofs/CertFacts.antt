@@ -64,7 +64,13 @@ one_more : (seed n k : ℕ) → k < 64 → HasEntries seed n k → HasWindow see
 one_more seed n k b before own =
     let sheet : SheetParts = generated_sheet seed n in
     let e : Entry = best_of_window edf_meaning per_task_meaning (λ d. d) sheet k own.window in
-    let points : length e.points ≤ 6400 = omega (arith, entry_points edf_meaning per_task_meaning (λ d. d) sheet k own.window, points_most edf_meaning per_task_meaning (λ d. d) sheet k own.window, own.small) in
+    let points : length e.points ≤ 6400 =
+    omega (
+      arith,
+      entry_points edf_meaning per_task_meaning (λ d. d) sheet k own.window,
+      points_most edf_meaning per_task_meaning (λ d. d) sheet k own.window,
+      own.small,
+    ) in
     record {
       entries = before.entries ++ e ∷ [];
       listed = next_entry edf_meaning per_task_meaning (λ d. d) sheet 1000000 k before.entries before.listed own.window (omega (arith, own.small)) own.least

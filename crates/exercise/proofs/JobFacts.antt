@@ -50,7 +50,9 @@ unfolding arrivals_of
 jobs_most seed n t run some ok =
     let tasks : (k : ℕ) → k < length run.jobs → (job_at run k).task < n = λ k b. omega (arith, (ok.complies.valid.jobs k b).task, sheet_count seed n) in
     let long : 0 + t - 0 ≡ t = omega arith in
-    let each = all_by_task (λ o. 1) (λ o. t) 0 n run tasks (λ o. t / (2 * n) + 1) (λ o b. omega (arith, ok.complies.curves o 0 (0 + t) (omega (arith, sheet_count seed n)) (omega arith), ap (alpha_of (task_at (generated_sheet seed n) o).curve) long, curve_most seed n o t some b)) in
+    let each =
+    all_by_task (λ o. 1) (λ o. t) 0 n run tasks (λ o. t / (2 * n) + 1)
+    (λ o b. omega (arith, ok.complies.curves o 0 (0 + t) (omega (arith, sheet_count seed n)) (omega arith), ap (alpha_of (task_at (generated_sheet seed n) o).curve) long, curve_most seed n o t some b)) in
     omega (
       arith,
       each,

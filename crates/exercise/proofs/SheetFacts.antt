@@ -40,7 +40,8 @@ sheet_task seed n i l = nth_task seed n n i l
 pub generated_valid : (seed n i : ℕ) → 1 ≤ n → n ≤ 64 → i < n → IsTask (generated_task seed n i)
 unfolding generated_task
 generated_valid seed n i some few l =
-    task_valid i (period_of seed n i) (cost_of seed i) (omega arith) (omega (arith, period_low seed n i)) (omega (arith, period_high seed n i)) (cost_low seed i) (omega (arith, cost_high seed i, scale_high seed i))
+    task_valid i (period_of seed n i) (cost_of seed i) (omega arith) (omega (arith, period_low seed n i))
+    (omega (arith, period_high seed n i)) (cost_low seed i) (omega (arith, cost_high seed i, scale_high seed i))
 
 differ : (seed n i k : ℕ) → i < k → k < n → n ≤ 64 → (generated_task seed n i).name ≡ (generated_task seed n k).name → ⊥
 unfolding generated_task

@@ -34,7 +34,9 @@ module _ (w : World) (laws : IsLawful w) (t : ℕ) (run : Run) (sound : IsSound 
   ]
 
   unserved : (u : ℕ) → u ≤ t → service_of run (length run.jobs) u ≡ 0
-  unserved u h = service_unlisted run (length run.jobs) (length run.jobs) u (omega (arith, sound.now)) (λ v m b e. (sound.complies.valid.ticks v m (omega (arith, sound.now)) e).pending.listed) (omega arith)
+  unserved u h =
+      service_unlisted run (length run.jobs) (length run.jobs) u (omega (arith, sound.now))
+      (λ v m b e. (sound.complies.valid.ticks v m (omega (arith, sound.now)) e).pending.listed) (omega arith)
 
   at_new : (u : ℕ) → u ≤ t → w.cuts.cuttable (task_at w.sheet j.task) j (service_of run (length run.jobs) u) ≡ true
   at_new u h = ap (w.cuts.cuttable (task_at w.sheet j.task) j) (unserved u h) ∙ (laws.cuts j.task of).cut_first j fits
@@ -68,9 +70,19 @@ module _ (w : World) (laws : IsLawful w) (t : ℕ) (run : Run) (sound : IsSound 
         let of_o : j.task ≡ o = eqb-true j.task o p.0 in
         let in_window : s ≤ t = grind (arith, nat_tests) in
         let past : t < u = grind (arith, nat_tests) in
-        let fewer : arrivals_of run j.task s u ≤ arrivals_of run j.task s (suc t) = arrivals_le run j.task s u s (suc t) (λ k c e. (let a = sound.early k c in grind (arith, nat_tests))) in
-        let more : alpha_of (task_at w.sheet j.task).curve (t + 1 - s) ≤ alpha_of (task_at w.sheet j.task).curve (u - s) = alpha_mono (task_at w.sheet j.task).curve (laws.sheet.each j.task of).curve (t + 1 - s) (u - s) (omega arith) in
-        let one : arrivals_of (with_job run j) j.task s u ≤ alpha_of (task_at w.sheet j.task).curve (u - s) = omega (arith, arrivals_more run j j.task s u, fewer, more, room s in_window, ap (λ (v : Bool). cond {A = ℕ} v 1 0) (subst (λ i. arrives_in i s u j ≡ true) (sym of_o) is)) in
+        let fewer : arrivals_of run j.task s u ≤ arrivals_of run j.task s (suc t) =
+        arrivals_le run j.task s u s (suc t) (λ k c e. (let a = sound.early k c in grind (arith, nat_tests))) in
+        let more : alpha_of (task_at w.sheet j.task).curve (t + 1 - s) ≤ alpha_of (task_at w.sheet j.task).curve (u - s) =
+        alpha_mono (task_at w.sheet j.task).curve (laws.sheet.each j.task of).curve (t + 1 - s) (u - s) (omega arith) in
+        let one : arrivals_of (with_job run j) j.task s u ≤ alpha_of (task_at w.sheet j.task).curve (u - s) =
+        omega (
+          arith,
+          arrivals_more run j j.task s u,
+          fewer,
+          more,
+          room s in_window,
+          ap (λ (v : Bool). cond {A = ℕ} v 1 0) (subst (λ i. arrives_in i s u j ≡ true) (sym of_o) is),
+        ) in
         subst (λ i. arrivals_of (with_job run j) i s u ≤ alpha_of (task_at w.sheet i).curve (u - s)) of_o one
   ]
 
@@ -99,7 +111,8 @@ module _ (w : World) (laws : IsLawful w) (t : ℕ) (run : Run) (sound : IsSound 
           pending = still_pending k u (sound.complies.valid.ticks u k h e).pending;
           in_order = λ n b. each (λ i v. v.task ≡ (job_at (with_job run j) k).task → v.arrival < (job_at (with_job run j) k).arrival → v.cost ≤ service_of run i u)
               (λ i c same less. (sound.complies.valid.ticks u k h e).in_order i c (same ∙ ap (λ (v : Job). v.task) (job_of_tick u k (omega (arith, sound.now)) e)) (omega (arith, less, ap (λ (v : Job). v.arrival) (job_of_tick u k (omega (arith, sound.now)) e))))
-              (λ same less. absurd (omega (arith, less, ap (λ (v : Job). v.arrival) (job_of_tick u k (omega (arith, sound.now)) e), sound.early k (sound.complies.valid.ticks u k h e).pending.listed))) n b;
+              (λ same less. absurd (omega (arith, less, ap (λ (v : Job). v.arrival) (job_of_tick u k (omega (arith, sound.now)) e), sound.early k (sound.complies.valid.ticks u k h e).pending.listed)))
+              n b;
         };
       };
       curves = within_more room;
@@ -117,12 +130,16 @@ module _ (w : World) (laws : IsLawful w) (t : ℕ) (run : Run) (sound : IsSound 
           subst (λ (v : Job). key_le (w.policy.key w.sheet v) (w.policy.key w.sheet (job_at (with_job run j) n)) ≡ true) (sym same_k) half
           );
     };
-    ahead = λ k n bk bn. each (λ i v. 0 < service_of run i t → (job_at (with_job run j) n).task ≡ v.task → (job_at (with_job run j) n).arrival < v.arrival → (job_at (with_job run j) n).cost ≤ service_of run n t)
+    ahead =
+        λ k n bk bn. each
+        (λ i v. 0 < service_of run i t → (job_at (with_job run j) n).task ≡ v.task → (job_at (with_job run j) n).arrival < v.arrival → (job_at (with_job run j) n).cost ≤ service_of run n t)
         (λ i b p. each (λ m v. v.task ≡ (job_at run i).task → v.arrival < (job_at run i).arrival → v.cost ≤ service_of run m t)
         (λ m c same less. sound.ahead i m b c p same less)
         (λ same less. absurd (omega (arith, sound.early i b))) n bn)
         (λ p same less. absurd (omega (arith, unserved t (omega arith)))) k bk;
-    single = λ k n bk bn. each (λ i v. w.cuts.cuttable (task_at w.sheet v.task) v (service_of run i t) ≡ false → w.cuts.cuttable (task_at w.sheet (job_at (with_job run j) n).task) (job_at (with_job run j) n) (service_of run n t) ≡ false → i ≡ n)
+    single =
+        λ k n bk bn. each
+        (λ i v. w.cuts.cuttable (task_at w.sheet v.task) v (service_of run i t) ≡ false → w.cuts.cuttable (task_at w.sheet (job_at (with_job run j) n).task) (job_at (with_job run j) n) (service_of run n t) ≡ false → i ≡ n)
         (λ i b f. each (λ m v. w.cuts.cuttable (task_at w.sheet v.task) v (service_of run m t) ≡ false → i ≡ m)
         (λ m c g. sound.single i m b c f g)
         (λ g. absurd (let t = at_new t (omega arith) in cc)) n bn)

@@ -64,7 +64,9 @@ module _ (w : World) (laws : IsLawful w) (t : ℕ) (run : Run) (sound : IsSound 
       ((i : ℕ) → i < length run.jobs → can_cut w.cuts w.sheet run i t ≡ true) → MayFollow w t run (Runs k)
   unfolding most_urgent
   follows_urgent k b p is cuts =
-      let is_first : (i : ℕ) → IsPending run i t → comes_before w run i k ≡ false = λ i q. best_first (λ i. is_pending run i t) (comes_before w run) (length run.jobs) k i (comes_chain w run) (comes_itself w run) is q.listed (pending_to run i t q) in
+      let is_first : (i : ℕ) → IsPending run i t → comes_before w run i k ≡ false =
+      λ i q. best_first (λ i. is_pending run i t) (comes_before w run) (length run.jobs) k i (comes_chain w run)
+      (comes_itself w run) is q.listed (pending_to run i t q) in
       let pends : IsPending run k t = pending_from run k t p in
       let orders : (n : ℕ) → n < length run.jobs → (job_at run n).task ≡ (job_at run k).task → (job_at run n).arrival < (job_at run k).arrival → IsDone run n t = λ n c same less. elim (cases_lt (service_of run n t) (job_at run n).cost) [
         | inr l ↦ l
@@ -80,7 +82,9 @@ module _ (w : World) (laws : IsLawful w) (t : ℕ) (run : Run) (sound : IsSound 
         idle = λ e. absurd (cc);
         inside = λ on i c g. absurd (let z = cuts i c in cc);
         may_run = λ i e. (let s : k ≡ i = cc in subst (λ v. MayRun run v t) s (record { pending = pends; in_order = orders }));
-        policy = λ i n e cut q. (let s : k ≡ i = cc in subst (λ v. key_le (w.policy.key w.sheet (job_at run v)) (w.policy.key w.sheet (job_at run n)) ≡ true) s (later_key w run k n (is_first n q)));
+        policy =
+            λ i n e cut q.
+            (let s : k ≡ i = cc in subst (λ v. key_le (w.policy.key w.sheet (job_at run v)) (w.policy.key w.sheet (job_at run n)) ≡ true) s (later_key w run k n (is_first n q)));
       }
 
   pub choice_follows : MayFollow w t run (choice w run t)
@@ -168,10 +172,13 @@ module _ (w : World) (laws : IsLawful w) (t : ℕ) (run : Run) (sound : IsSound 
         let d : t + 1 - a ≡ t - a + 1 = omega arith in
         let e : t + 1 - a ≡ suc (t - a) = omega arith in
         let past : w.sbf (t - a) ≤ ticks_in is_on run a (t - a) = sound.complies.supplied a t h (omega (arith, sound.now)) in
-        let now : ticks_in is_on (with_tick run y) a (t + 1 - a) ≡ ticks_in is_on run a (t - a) + cond (is_on y) 1 0 = ap (ticks_in is_on (with_tick run y) a) e ∙ window_new run y is_on a (t - a) (omega (arith, sound.now)) in
+        let now : ticks_in is_on (with_tick run y) a (t + 1 - a) ≡ ticks_in is_on run a (t - a) + cond (is_on y) 1 0 =
+        ap (ticks_in is_on (with_tick run y) a) e ∙ window_new run y is_on a (t - a) (omega (arith, sound.now)) in
         elim (tick_cases y) [
           | inl off ↦
-              let may : w.sbf (t + 1 - a) ≤ ticks_in is_on (with_tick run Off) a (t + 1 - a) = leb-true _ _ (all_parts (λ s. nat_le (w.sbf (t + 1 - s)) (ticks_in is_on (with_tick run Off) s (t + 1 - s))) (t + 1) a (follows.off off) (omega arith)) in
+              let may : w.sbf (t + 1 - a) ≤ ticks_in is_on (with_tick run Off) a (t + 1 - a) =
+              leb-true _ _
+              (all_parts (λ s. nat_le (w.sbf (t + 1 - s)) (ticks_in is_on (with_tick run Off) s (t + 1 - s))) (t + 1) a (follows.off off) (omega arith)) in
               subst (λ x. w.sbf (t + 1 - a) ≤ ticks_in is_on (with_tick run x) a (t + 1 - a)) (sym off) may
           | inr (inl idle) ↦ omega (arith, laws.rises (t - a), past, now, ap w.sbf d, ap (λ (v : Tick). cond {A = ℕ} (is_on v) 1 0) idle)
           | inr (inr run) ↦ omega (arith, laws.rises (t - a), past, now, ap w.sbf d, ap (λ (v : Tick). cond {A = ℕ} (is_on v) 1 0) run.1)
@@ -226,7 +233,9 @@ module _ (w : World) (laws : IsLawful w) (t : ℕ) (run : Run) (sound : IsSound 
     old_arrival n k e = e
 
     may_run_there : (k u : ℕ) → u ≤ t → MayRun run k u → MayRun (with_tick run y) k u
-    may_run_there k u h m = record { pending = there k u h m.pending; in_order = λ n b same less. done_there n u h (m.in_order n (old_job n b) (old_task n k same) (old_arrival n k less)) }
+    may_run_there k u h m =
+        record
+        { pending = there k u h m.pending; in_order = λ n b same less. done_there n u h (m.in_order n (old_job n b) (old_task n k same) (old_arrival n k less)) }
 
     sound_ahead : (k n : ℕ) → k < length (with_tick run y).jobs → n < length (with_tick run y).jobs →
         0 < service_of (with_tick run y) k (suc t) →
@@ -268,9 +277,16 @@ module _ (w : World) (laws : IsLawful w) (t : ℕ) (run : Run) (sound : IsSound 
         };
         curves = sound_curves;
         supplied = supply_more;
-        conserving = λ u k h e p. at_each (λ i x. x ≡ Idle → IsPending run k i → ⊥) (λ i c. sound.complies.conserving i k c) (λ e p. follows.idle e k p) u h e (back k u (in_ticks u h) p);
-        segments = λ u k h b on f. at_each (λ i x. x ≢ Off → can_cut w.cuts w.sheet run k i ≡ false → x ≡ Runs k) (λ i c. sound.complies.segments i k c (old_job k b)) (λ on f. follows.inside on k (old_job k b) f) u h on (sym (cut_same k u (in_ticks u h)) ∙ f);
-        policy = λ u k n h e c p. old_keys k n (at_each (λ i x. x ≡ Runs k → can_cut w.cuts w.sheet run k i ≡ true → IsPending run n i → key_le (w.policy.key w.sheet (job_at run k)) (w.policy.key w.sheet (job_at run n)) ≡ true) (λ i c. sound.complies.policy i k n c) (follows.policy k n) u h e (sym (cut_same k u (in_ticks u h)) ∙ c) (back n u (in_ticks u h) p));
+        conserving =
+            λ u k h e p. at_each (λ i x. x ≡ Idle → IsPending run k i → ⊥) (λ i c. sound.complies.conserving i k c)
+            (λ e p. follows.idle e k p) u h e (back k u (in_ticks u h) p);
+        segments =
+            λ u k h b on f. at_each (λ i x. x ≢ Off → can_cut w.cuts w.sheet run k i ≡ false → x ≡ Runs k)
+            (λ i c. sound.complies.segments i k c (old_job k b)) (λ on f. follows.inside on k (old_job k b) f) u h on
+            (sym (cut_same k u (in_ticks u h)) ∙ f);
+        policy =
+            λ u k n h e c p. old_keys k n
+            (at_each (λ i x. x ≡ Runs k → can_cut w.cuts w.sheet run k i ≡ true → IsPending run n i → key_le (w.policy.key w.sheet (job_at run k)) (w.policy.key w.sheet (job_at run n)) ≡ true) (λ i c. sound.complies.policy i k n c) (follows.policy k n) u h e (sym (cut_same k u (in_ticks u h)) ∙ c) (back n u (in_ticks u h) p));
       };
       ahead = sound_ahead;
       single = sound_single;

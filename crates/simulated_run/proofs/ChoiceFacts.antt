@@ -82,17 +82,22 @@ module _ (sbf : ℕ → ℕ) (run : Run) (t : ℕ) (now : length run.ticks ≡ t
   pub off_tells : may_be_off sbf run t ≡ true → (s : ℕ) → s ≤ t → sbf (t + 1 - s) ≤ ticks_in is_on run s (t - s)
   unfolding may_be_off
   off_tells may s h =
-      let at : sbf (t + 1 - s) ≤ ticks_in is_on (with_tick run Off) s (t + 1 - s) = leb-true _ _ (all_parts (λ s. nat_le (sbf (t + 1 - s)) (ticks_in is_on (with_tick run Off) s (t + 1 - s))) (t + 1) s may (omega arith)) in
+      let at : sbf (t + 1 - s) ≤ ticks_in is_on (with_tick run Off) s (t + 1 - s) =
+      leb-true _ _
+      (all_parts (λ s. nat_le (sbf (t + 1 - s)) (ticks_in is_on (with_tick run Off) s (t + 1 - s))) (t + 1) s may (omega arith)) in
       omega (arith, at, off_window s h)
 
   pub off_from : ((s : ℕ) → s ≤ t → sbf (t + 1 - s) ≤ ticks_in is_on run s (t - s)) → may_be_off sbf run t ≡ true
   unfolding may_be_off
-  off_from each = all_from (λ s. nat_le (sbf (t + 1 - s)) (ticks_in is_on (with_tick run Off) s (t + 1 - s))) (t + 1) (λ s h. le-leb _ _ (omega (arith, each s (omega arith), off_window s (omega arith))))
+  off_from each =
+      all_from (λ s. nat_le (sbf (t + 1 - s)) (ticks_in is_on (with_tick run Off) s (t + 1 - s))) (t + 1)
+      (λ s h. le-leb _ _ (omega (arith, each s (omega arith), off_window s (omega arith))))
 
   pub off_broken : (s : ℕ) → s ≤ t → ticks_in is_on run s (t - s) < sbf (t + 1 - s) → may_be_off sbf run t ≡ false
   unfolding may_be_off
   off_broken s h few =
-      all_broken (λ s. nat_le (sbf (t + 1 - s)) (ticks_in is_on (with_tick run Off) s (t + 1 - s))) (t + 1) s (omega arith) (lt-leb (sbf (t + 1 - s)) (ticks_in is_on (with_tick run Off) s (t + 1 - s)) (omega (arith, few, off_window s h)))
+      all_broken (λ s. nat_le (sbf (t + 1 - s)) (ticks_in is_on (with_tick run Off) s (t + 1 - s))) (t + 1) s (omega arith)
+      (lt-leb (sbf (t + 1 - s)) (ticks_in is_on (with_tick run Off) s (t + 1 - s)) (omega (arith, few, off_window s h)))
 
   -- where one tick of each is promised, none may be off
   pub never_off : 1 ≤ sbf 1 → may_be_off sbf run t ≡ false

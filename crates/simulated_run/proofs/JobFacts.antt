@@ -54,7 +54,9 @@ bounds_sum (suc n) bound rest = omega (arith, sum_more bound (replicate n bound 
 
 pub bounds_within : (n bound : ℕ) (rest : List ℕ) → 1 ≤ bound → all_within bound rest ≡ true → all_within bound (replicate n bound ++ rest) ≡ true
 bounds_within zero bound rest low h = h
-bounds_within (suc n) bound rest low h = and_from _ _ (and_from (leb 1 bound) (leb bound bound) (le-leb 1 bound low) (le-leb bound bound (omega arith))) (bounds_within n bound rest low h)
+bounds_within (suc n) bound rest low h =
+    and_from _ _ (and_from (leb 1 bound) (leb bound bound) (le-leb 1 bound low) (le-leb bound bound (omega arith)))
+    (bounds_within n bound rest low h)
 
 pub rest_sum : (n : ℕ) → sum (rest_segment n) ≡ n
 rest_sum n = elim (cases_eq n 0) [
@@ -142,7 +144,10 @@ module _ (mode : Mode) (task : Task) (ok : IsTask task) (o t state : ℕ) where
   -- a new job fits by the task's own cut
   pub new_fits : fits task (new_job mode task o t state) ≡ true
   unfolding new_job
-  new_fits = and_from _ _ (and_from _ _ (le-leb _ _ (cost_fits mode task.cut task.cost state ok.cost_low ok.cut).low) (le-leb _ _ (cost_fits mode task.cut task.cost state ok.cost_low ok.cut).high)) (segments_by_fit mode task.cut task.cost o t state ok.cut)
+  new_fits =
+      and_from _ _
+      (and_from _ _ (le-leb _ _ (cost_fits mode task.cut task.cost state ok.cost_low ok.cut).low) (le-leb _ _ (cost_fits mode task.cut task.cost state ok.cost_low ok.cut).high))
+      (segments_by_fit mode task.cut task.cost o t state ok.cut)
 
   -- and so by every kind of the table that serves the task
   pub new_fits_by : (m : CutMeaning) → IsTabledCut m task → m.fits task (new_job mode task o t state) ≡ true

@@ -74,10 +74,14 @@ module _ (w : World) (laws : IsLawful w) where
   unfolding allowance_of
   allowed_has_room o t run b sound fresh =
       let curve = (task_at w.sheet o).curve in
-      let none : admits curve o run t 0 ≡ true = all_from (λ s. nat_le (arrivals_of run o s t + 0) (alpha_of curve (t + 1 - s))) (t + 1) (λ s h. le-leb _ _ (omega (arith, sound.complies.curves o s t b (omega arith), alpha_mono curve (laws.sheet.each o b).curve (t - s) (t + 1 - s) (omega arith)))) in
+      let none : admits curve o run t 0 ≡ true =
+      all_from (λ s. nat_le (arrivals_of run o s t + 0) (alpha_of curve (t + 1 - s))) (t + 1)
+      (λ s h. le-leb _ _ (omega (arith, sound.complies.curves o s t b (omega arith), alpha_mono curve (laws.sheet.each o b).curve (t - s) (t + 1 - s) (omega arith)))) in
       let all : admits curve o run t (allowance_of curve o run t) ≡ true = greatest_passes (admits curve o run t) (alpha_of curve 1) none in
       λ s h. (
-      let at : arrivals_of run o s t + allowance_of curve o run t ≤ alpha_of curve (t + 1 - s) = leb-true _ _ (all_parts (λ s. nat_le (arrivals_of run o s t + allowance_of curve o run t) (alpha_of curve (t + 1 - s))) (t + 1) s all (omega arith)) in
+      let at : arrivals_of run o s t + allowance_of curve o run t ≤ alpha_of curve (t + 1 - s) =
+      leb-true _ _
+      (all_parts (λ s. nat_le (arrivals_of run o s t + allowance_of curve o run t) (alpha_of curve (t + 1 - s))) (t + 1) s all (omega arith)) in
       let same : arrivals_of run o s (suc t) ≤ arrivals_of run o s t = arrivals_le run o s (suc t) s t (λ k c e. (let f = fresh k c in grind (arith, nat_tests))) in
       omega (arith, at, same)
       )
@@ -133,7 +137,9 @@ module _ (w : World) (laws : IsLawful w) where
   begun_tick t m sound =
       let may : Bool = may_be_off w.sbf m.run t in
       let off : Bool = is_off w.mode may m.state in
-      let follows : MayFollow w t m.run (cond off Off (choice w m.run t)) = by_off off (λ e. off_follows w laws t m.run sound (off_allowed w.mode may m.state e)) (choice_follows w laws t m.run sound) in
+      let follows : MayFollow w t m.run (cond off Off (choice w m.run t)) =
+      by_off off (λ e. off_follows w laws t m.run sound (off_allowed w.mode may m.state e))
+      (choice_follows w laws t m.run sound) in
       record {
         sound = sound_tick w laws t m.run sound (cond off Off (choice w m.run t)) follows;
         past = past_tick t m.run (cond off Off (choice w m.run t)) sound.early;

@@ -60,7 +60,9 @@ unfolding new_job
 new_is mode m sheet o t state jobs b ok law tabled few short =
     let fits : m.fits (task_at sheet o) (new_job mode (task_at sheet o) o t state) ≡ true = new_fits_by mode (task_at sheet o) ok o t state m tabled in
     record {
-      known = record { task = b; arrived = omega arith; prompt = refl; cost = omega (arith, new_cost_high mode (task_at sheet o) ok o t state, ok.cost_high); fits = fits; floats = new_floats mode (task_at sheet o) o t state };
+      known =
+          record
+          { task = b; arrived = omega arith; prompt = refl; cost = omega (arith, new_cost_high mode (task_at sheet o) ok o t state, ok.cost_high); fits = fits; floats = new_floats mode (task_at sheet o) o t state };
       positive = new_cost_low mode (task_at sheet o) ok o t state;
       cut = law.cut_first (new_job mode (task_at sheet o) o t state) fits;
       few_jobs = few;
@@ -79,7 +81,9 @@ module _ (p : PolicyMeaning) (m : CutMeaning) (sheet : SheetParts) (t : ℕ) (ru
   pub kept_with : (j : Job) (n : ℕ) (r : Rank) (after : BTreeMap Rank ℕ) (run' : Run) (left' : List ℕ) (total' : ℕ) (lists' : List (Vec ℕ)) (longer : Vec ℕ) →
       IsNew m sheet run.jobs j → j.arrival ≡ t → n ≡ length run.jobs → r ≡ rank_at p sheet j n →
       Updates rank_cmp queue after r (Some n)
-      → run' ≡ with_job run j → left' ≡ left ++ j.cost ∷ [] → total' ≡ total + length j.segs → lists' ≡ set lists j.task longer → longer.items ≡ (get_or lists j.task longer).items ++ j.arrival ∷ [] → IsKeptBy p m sheet t run' left' after x total' lists' sums
+      → run' ≡ with_job run j → left' ≡ left ++ j.cost ∷ [] → total' ≡ total + length j.segs → lists' ≡ set lists j.task longer →
+      longer.items ≡ (get_or lists j.task longer).items ++ j.arrival ∷ [] → IsKeptBy p m sheet t run' left' after x total' lists'
+      sums
   unfolding with_job
   kept_with j n r after run' left' total' lists' longer new at_t len is_r up is_run is_left is_total is_lists is_longer =
       let known : IsKnown m sheet t j = subst (λ i. IsKnown m sheet i j) at_t new.known in
@@ -127,7 +131,9 @@ module _ (w : World) (o t : ℕ) (m : Moment) (within : IsWithin m.run.jobs) whe
       IsLoadRefusal spare (segments_by w.mode task.cut (cost_by w.mode task.cut task.cost m.state) m.state) e →
       IsRefusal (add_job w o t m).run.jobs e
   unfolding new_job
-  refuses_load task spare e same few s h = refuses_by spare e few s (subst (λ (v : Task). IsLoadRefusal spare (segments_by w.mode v.cut (cost_by w.mode v.cut v.cost m.state) m.state) e) same h)
+  refuses_load task spare e same few s h =
+      refuses_by spare e few s
+      (subst (λ (v : Task). IsLoadRefusal spare (segments_by w.mode v.cut (cost_by w.mode v.cut v.cost m.state) m.state) e) same h)
 
 -- what refuses one job refuses those after it
 
@@ -152,7 +158,8 @@ unfolding arrive_of
 arrived_by w o t m g n state e f h =
     let count : n ≡ arriving w.mode (room w o t m) m.state = f ∙ ap (λ (v : ℕ). arriving w.mode v m.state) e in
     let later : state ≡ after_arriving w.mode (room w o t m) m.state = h ∙ ap (λ (v : ℕ). after_arriving w.mode v m.state) e in
-    ap (λ (v : ℕ). add_jobs w o t v (record { run = m.run; state = state })) count ∙ ap (λ (v : ℕ). add_jobs w o t (arriving w.mode (room w o t m) m.state) (record { run = m.run; state = v })) later
+    ap (λ (v : ℕ). add_jobs w o t v (record { run = m.run; state = state })) count ∙ ap
+    (λ (v : ℕ). add_jobs w o t (arriving w.mode (room w o t m) m.state) (record { run = m.run; state = v })) later
 
 -- the simulation's list of a task
 pub list_is : (o n : ℕ) (run : Run) (lists : List (Vec ℕ)) (list : List ℕ) (v : Vec ℕ) → HasArrivals n run lists →
@@ -174,7 +181,9 @@ room_is w o t m list task g is_task are is_g =
 pub lawful_world : (p : PolicyMeaning) (m : CutMeaning) (sheet : SheetParts) (mode : Mode) → IsValidSheet sheet →
     IsLawfulPolicy p sheet → HasCuts (world_by p m sheet mode) → IsTabled (world_by p m sheet mode) →
     IsLawful (world_by p m sheet mode)
-lawful_world p m sheet mode valid policy cuts tabled = record { sheet = valid; policy = policy; cuts = cuts; tabled = tabled; starts = stated_starts sheet valid; rises = λ d. (stated_grows sheet d valid).1 }
+lawful_world p m sheet mode valid policy cuts tabled =
+    record
+    { sheet = valid; policy = policy; cuts = cuts; tabled = tabled; starts = stated_starts sheet valid; rises = λ d. (stated_grows sheet d valid).1 }
 
 pub allowance_small : (curve : Curve) (arrivals : List ℕ) (t : ℕ) → IsCurve curve → allowance_in curve arrivals t ≤ 2000000
 unfolding allowance_in

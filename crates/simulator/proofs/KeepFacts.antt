@@ -93,7 +93,14 @@ module _ (p : PolicyMeaning) (m : CutMeaning) (sheet : SheetParts) (t : ℕ) (ru
       | inl c ↦ omega (arith, kept.amounts k c, get_or_append_left left (j.cost ∷ []) 0 k (omega (arith, kept.lefts)), ap (λ (v : Job). v.cost) (job_kept run j k c))
       | inr c ↦
           let at : length run.jobs ≡ k = omega (arith, jobs_more run j) in
-          omega (arith, ap (λ (v : Job). v.cost) (job_new run j (length run.jobs) refl), ap (λ i. (job_at (with_job run j) i).cost) at, ap (λ i. left_at (left ++ j.cost ∷ []) i) at, get_or_at left j.cost [] 0 (length run.jobs) kept.lefts, unserved k (omega arith))
+          omega (
+            arith,
+            ap (λ (v : Job). v.cost) (job_new run j (length run.jobs) refl),
+            ap (λ i. (job_at (with_job run j) i).cost) at,
+            ap (λ i. left_at (left ++ j.cost ∷ []) i) at,
+            get_or_at left j.cost [] 0 (length run.jobs) kept.lefts,
+            unserved k (omega arith),
+          )
     ];
     waiting = queue_push p sheet run.jobs left queue after j j.cost n (sym len) (omega (arith, kept.lefts)) pos kept.waiting up;
     segment = only_more (λ k. can_cut m sheet run k t) (λ k. can_cut m sheet (with_job run j) k t) (length run.jobs) (length (with_job run j).jobs) x (jobs_more run j)
@@ -116,7 +123,8 @@ module _ (p : PolicyMeaning) (m : CutMeaning) (sheet : SheetParts) (t : ℕ) (ru
   pub kept_tick : (y : Tick) → ((k : ℕ) → runs k y ≡ false) → ((k : ℕ) → y ≢ Runs k) → IsKeptAt p m sheet (suc t) (with_tick run y) left queue x
   unfolding with_tick
   kept_tick y quiet ne =
-      let same : (k : ℕ) → service_of (with_tick run y) k (suc t) ≡ service_of run k t = λ k. omega (arith, service_new run y k t kept.now, ap (λ (b : Bool). cond {A = ℕ} b 1 0) (quiet k)) in
+      let same : (k : ℕ) → service_of (with_tick run y) k (suc t) ≡ service_of run k t =
+      λ k. omega (arith, service_new run y k t kept.now, ap (λ (b : Bool). cond {A = ℕ} b 1 0) (quiet k)) in
       record {
         now = omega (arith, ticks_more run y, kept.now);
         known = later;
@@ -124,7 +132,9 @@ module _ (p : PolicyMeaning) (m : CutMeaning) (sheet : SheetParts) (t : ℕ) (ru
         lefts = kept.lefts;
         amounts = λ k b. omega (arith, kept.amounts k b, same k);
         waiting = kept.waiting;
-        segment = only_same (λ k. can_cut m sheet run k t) (λ k. can_cut m sheet (with_tick run y) k (suc t)) (length run.jobs) x (λ k b. ap (m.cuttable (task_at sheet (job_at run k).task) (job_at run k)) (same k)) kept.segment;
+        segment =
+            only_same (λ k. can_cut m sheet run k t) (λ k. can_cut m sheet (with_tick run y) k (suc t)) (length run.jobs) x
+            (λ k b. ap (m.cuttable (task_at sheet (job_at run k).task) (job_at run k)) (same k)) kept.segment;
         within = kept.within;
       }
 
@@ -135,8 +145,11 @@ module _ (p : PolicyMeaning) (m : CutMeaning) (sheet : SheetParts) (t : ℕ) (ru
       → IsKeptAt p m sheet (suc t) (with_tick run (Runs j)) (set left j rest) after (cond cut None (Some j))
   unfolding with_tick
   kept_run j rest after cut b can amount waiting is_cut =
-      let here : service_of (with_tick run (Runs j)) j (suc t) ≡ suc (service_of run j t) = omega (arith, service_new run (Runs j) j t kept.now, ap (λ (b : Bool). cond {A = ℕ} b 1 0) (eq-eqb j j refl)) in
-      let other : (k : ℕ) → k ≢ j → service_of (with_tick run (Runs j)) k (suc t) ≡ service_of run k t = λ k ne. omega (arith, service_new run (Runs j) k t kept.now, ap (λ (b : Bool). cond {A = ℕ} b 1 0) (ne_eqb j k (λ e. ne (sym e)))) in
+      let here : service_of (with_tick run (Runs j)) j (suc t) ≡ suc (service_of run j t) =
+      omega (arith, service_new run (Runs j) j t kept.now, ap (λ (b : Bool). cond {A = ℕ} b 1 0) (eq-eqb j j refl)) in
+      let other : (k : ℕ) → k ≢ j → service_of (with_tick run (Runs j)) k (suc t) ≡ service_of run k t =
+      λ k ne. omega
+      (arith, service_new run (Runs j) k t kept.now, ap (λ (b : Bool). cond {A = ℕ} b 1 0) (ne_eqb j k (λ e. ne (sym e)))) in
       let given : (job_at run j).cost - rest ≡ service_of (with_tick run (Runs j)) j (suc t) = omega (arith, kept.amounts j b, here) in
       let new_cut : can_cut m sheet (with_tick run (Runs j)) j (suc t) ≡ cut = ap (m.cuttable (task_at sheet (job_at run j).task) (job_at run j)) (sym given) ∙ sym is_cut in
       record {

@@ -59,5 +59,6 @@ pub drawn_load : (mode : Mode) (seed most state spare : ℕ) (gs : List ℕ) (lo
     length gs ≤ spare → load.cost ≡ sum load.segs.items → load.segs.items ≡ drawn_segments gs state →
     IsLoad mode (Fixed gs) most state spare load
 drawn_load mode seed most state spare gs load e few cost segs =
-    let done : IsLoad (Seed seed) (Fixed gs) most state spare load = record { cost = cost ∙ ap sum segs; segs = segs; few = omega (arith, ap length segs, drawn_length gs state) } in
+    let done : IsLoad (Seed seed) (Fixed gs) most state spare load =
+    record { cost = cost ∙ ap sum segs; segs = segs; few = omega (arith, ap length segs, drawn_length gs state) } in
     subst (λ (m : Mode). IsLoad m (Fixed gs) most state spare load) (sym e) done

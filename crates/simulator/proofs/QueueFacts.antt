@@ -30,7 +30,8 @@ use Rattle.simulator.specs.SimulationState.{IsEntry, IsQueue, left_at}
 
 pub rank_total : IsTotalOrder rank_cmp
 rank_total =
-    then_total (on_total (λ (r : Rank). r.high) int_cmp_total) (then_total (on_total (λ (r : Rank). r.low) int_cmp_total) (then_total (on_total (λ (r : Rank). r.task) nat_cmp_total) (then_total (on_total (λ (r : Rank). r.arrival) nat_cmp_total) (on_total (λ (r : Rank). r.number) nat_cmp_total))))
+    then_total (on_total (λ (r : Rank). r.high) int_cmp_total)
+    (then_total (on_total (λ (r : Rank). r.low) int_cmp_total) (then_total (on_total (λ (r : Rank). r.task) nat_cmp_total) (then_total (on_total (λ (r : Rank). r.arrival) nat_cmp_total) (on_total (λ (r : Rank). r.number) nat_cmp_total))))
 
 eq_tells : (o : Ordering) → is_eq o ≡ true → o ≡ Equal
 eq_tells Less h = absurd (cc)
@@ -98,7 +99,9 @@ module _ (p : PolicyMeaning) (sheet : SheetParts) where
           | inl e ↦
               let got : get rank_cmp after s ≡ Some n = up.0 s ∙ ap (λ (b : Bool). cond b (Some n) (get rank_cmp queue s)) e in
               let is_k : n ≡ k = cc in
-              let here : IsEntry p sheet (jobs ++ j ∷ []) (left ++ c ∷ []) s n = record { listed = omega (arith, length_more jobs j); waits = omega (arith, left_new); rank = sym (same_entry r s e) ∙ of_new } in
+              let here : IsEntry p sheet (jobs ++ j ∷ []) (left ++ c ∷ []) s n =
+              record
+              { listed = omega (arith, length_more jobs j); waits = omega (arith, left_new); rank = sym (same_entry r s e) ∙ of_new } in
               subst (λ i. IsEntry p sheet (jobs ++ j ∷ []) (left ++ c ∷ []) s i) is_k here
           | inr e ↦
               let old : IsEntry p sheet jobs left s k = q.sound s k (sym (up.2 s e) ∙ h) in
@@ -106,7 +109,8 @@ module _ (p : PolicyMeaning) (sheet : SheetParts) where
         ];
         complete = λ k h l. elim (cases_lt k n) [
           | inl b ↦
-              let there : get rank_cmp queue (rank_of p sheet jobs k) ≡ Some k = q.complete k (omega arith) (omega (arith, l, get_or_append_left left (c ∷ []) 0 k (omega arith))) in
+              let there : get rank_cmp queue (rank_of p sheet jobs k) ≡ Some k =
+              q.complete k (omega arith) (omega (arith, l, get_or_append_left left (c ∷ []) 0 k (omega arith))) in
               let same : rank_of p sheet (jobs ++ j ∷ []) k ≡ rank_of p sheet jobs k = rank_kept jobs j k (omega arith) in
               ap (λ (x : Rank). get rank_cmp after x) same ∙ (up.2 (rank_of p sheet jobs k) (apart jobs r k (λ e. omega arith)) ∙ there)
           | inr b ↦
@@ -171,7 +175,9 @@ module _ (w : World) (run : Run) (left : List ℕ) (queue : BTreeMap Rank ℕ) (
       best_some (λ i. is_pending run i t) (comes_before w run) k (length run.jobs) here.listed (tells.waits k here.listed here.waits) (λ i b pending ne. (
       let there : get rank_cmp queue (rank_of w.policy w.sheet run.jobs i) ≡ Some i = q.complete i b (tells.over i b pending) in
       let some : IsSome (get rank_cmp queue (rank_of w.policy w.sheet run.jobs i)) = ap is_some there in
-      let g : is_gt (rank_cmp (rank_of w.policy w.sheet run.jobs k) (rank_of w.policy w.sheet run.jobs i)) ≡ false = subst (λ (x : Rank). is_gt (rank_cmp x (rank_of w.policy w.sheet run.jobs i)) ≡ false) is_r (low (rank_of w.policy w.sheet run.jobs i) some) in
+      let g : is_gt (rank_cmp (rank_of w.policy w.sheet run.jobs k) (rank_of w.policy w.sheet run.jobs i)) ≡ false =
+      subst (λ (x : Rank). is_gt (rank_cmp x (rank_of w.policy w.sheet run.jobs i)) ≡ false) is_r
+      (low (rank_of w.policy w.sheet run.jobs i) some) in
       let both = before (rank_of w.policy w.sheet run.jobs k) (rank_of w.policy w.sheet run.jobs i) g (λ e. ne (sym e)) in
       (comes_before_is w run k i ∙ both.0, comes_before_is w run i k ∙ both.1)
       ))
@@ -183,6 +189,7 @@ module _ (w : World) (run : Run) (left : List ℕ) (queue : BTreeMap Rank ℕ) (
         | inr f ↦ f
         | inl pending ↦
             let there : get rank_cmp queue (rank_of w.policy w.sheet run.jobs i) ≡ Some i = q.complete i b (tells.over i b pending) in
-            let none : get rank_cmp queue (rank_of w.policy w.sheet run.jobs i) ≡ None = ap (lookup (is_at (rank_cmp (rank_of w.policy w.sheet run.jobs i)))) (nil_from_length queue.entries empty) in
+            let none : get rank_cmp queue (rank_of w.policy w.sheet run.jobs i) ≡ None =
+            ap (lookup (is_at (rank_cmp (rank_of w.policy w.sheet run.jobs i)))) (nil_from_length queue.entries empty) in
             absurd (cc)
       ])

@@ -54,7 +54,10 @@ known_job m sheet t j valid tabled h known = record {
   task = omega (arith, known.task, valid.few);
   arrival = omega (arith, known.arrived);
   cost = known.cost;
-  segs = cut_segments (task_at sheet j.task).cut j (and_parts (is_between 1 (task_at sheet j.task).cost j.cost) _ (sym ((tabled j.task known.task).same_fits j) ∙ known.fits)).1 known.cost;
+  segs =
+      cut_segments (task_at sheet j.task).cut j
+      (and_parts (is_between 1 (task_at sheet j.task).cost j.cost) _ (sym ((tabled j.task known.task).same_fits j) ∙ known.fits)).1
+      known.cost;
 }
 
 pub kept_within : (p : PolicyMeaning) (m : CutMeaning) (sheet : SheetParts) (t : ℕ) (run : Run) (left : List ℕ) (queue : BTreeMap Rank ℕ) (x : Option ℕ) →

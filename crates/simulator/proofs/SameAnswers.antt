@@ -79,7 +79,9 @@ off_window run counts t s e are h =
 module _ (sbf : ℕ → ℕ) (run : Run) (counts : List ℕ) (t : ℕ) (all : length run.ticks ≡ t) (are : AreCounts run counts t) where
   off_from : MayBeOff sbf counts t → may_be_off sbf run t ≡ true
   unfolding may_be_off
-  off_from may = all_from (λ s. leb (sbf (t + 1 - s)) (ticks_in is_on (with_tick run Off) s (t + 1 - s))) (t + 1) (λ s b. le-leb _ _ (omega (arith, may s (omega arith), off_window run counts t s all are (omega arith))))
+  off_from may =
+      all_from (λ s. leb (sbf (t + 1 - s)) (ticks_in is_on (with_tick run Off) s (t + 1 - s))) (t + 1)
+      (λ s b. le-leb _ _ (omega (arith, may s (omega arith), off_window run counts t s all are (omega arith))))
 
   off_tells : may_be_off sbf run t ≡ true → MayBeOff sbf counts t
   unfolding may_be_off

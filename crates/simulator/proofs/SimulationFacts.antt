@@ -90,4 +90,6 @@ first_moment w run state e f = cc
 
 pub run_is : (run : Run) (jobs : List Job) (ticks : List Tick) → jobs ≡ run.jobs → ticks ≡ run.ticks →
     (let r : Run = record { jobs = jobs; ticks = ticks } in r) ≡ run
-run_is run jobs ticks e f = ap (λ (l : List Job). (let r : Run = record { jobs = l; ticks = ticks } in r)) e ∙ ap (λ (l : List Tick). (let r : Run = record { jobs = run.jobs; ticks = l } in r)) f
+run_is run jobs ticks e f =
+    ap (λ (l : List Job). (let r : Run = record { jobs = l; ticks = ticks } in r)) e ∙ ap
+    (λ (l : List Tick). (let r : Run = record { jobs = run.jobs; ticks = l } in r)) f

@@ -36,7 +36,9 @@ module _ (w : World) (t : ℕ) (run : Run) (left : List ℕ) (queue : BTreeMap R
   chosen_inside k e = inside_is (Some k) e
 
   pub chosen_first : (k : ℕ) → x ≡ None → IsFirstEntry queue k → choice w run t ≡ Runs k
-  chosen_first k e f = inside_is None e ∙ ap (chosen None) (queue_first w run left queue t kept.waiting (kept_tells w.policy w.cuts w.sheet t run left queue x kept) k f.rank f.got f.least)
+  chosen_first k e f =
+      inside_is None e ∙ ap (chosen None)
+      (queue_first w run left queue t kept.waiting (kept_tells w.policy w.cuts w.sheet t run left queue x kept) k f.rank f.got f.least)
 
   pub chosen_idle : x ≡ None → length queue.entries ≡ 0 → choice w run t ≡ Idle
   chosen_idle e f = inside_is None e ∙ ap (chosen None) (queue_none w run left queue t kept.waiting (kept_tells w.policy w.cuts w.sheet t run left queue x kept) f)
@@ -49,7 +51,9 @@ module _ (w : World) (cuts : HasCuts w) (t : ℕ) (m : Simulation) (kept : IsKep
     | inl p ↦ p
     | inr z ↦
         let known = kept.known k b in
-        let all : can_cut w.cuts w.sheet (run_of m) k t ≡ true = (cuts (job_at (run_of m) k).task known.task).cut_last (job_at (run_of m) k) (service_of (run_of m) k t) known.fits (omega (arith, kept.amounts k b)) in
+        let all : can_cut w.cuts w.sheet (run_of m) k t ≡ true =
+        (cuts (job_at (run_of m) k).task known.task).cut_last (job_at (run_of m) k) (service_of (run_of m) k t) known.fits
+        (omega (arith, kept.amounts k b)) in
         absurd (cc)
   ]
 
@@ -57,13 +61,15 @@ module _ (w : World) (cuts : HasCuts w) (t : ℕ) (m : Simulation) (kept : IsKep
   unfolding most_urgent
   may_urgent None e f = tt
   may_urgent (Some k) e f =
-      let found : IsFound (λ i. is_pending (run_of m) i t) (comes_before w (run_of m)) (length m.jobs.items) k = best_found (λ i. is_pending (run_of m) i t) (comes_before w (run_of m)) (length m.jobs.items) k (sym e) in
+      let found : IsFound (λ i. is_pending (run_of m) i t) (comes_before w (run_of m)) (length m.jobs.items) k =
+      best_found (λ i. is_pending (run_of m) i t) (comes_before w (run_of m)) (length m.jobs.items) k (sym e) in
       let tells = kept_tells w.policy w.cuts w.sheet t (run_of m) m.left.items m.queue m.inside kept in
       (found.listed, tells.over k found.listed found.passes, subst (λ (i : Option ℕ). CanRun i k) (sym f) tt)
 
   may_at : (x : Option ℕ) → m.inside ≡ x → MayBe m (choice w (run_of m) t)
   may_at (Some k) e =
-      let seg : OnlyInside (λ i. can_cut w.cuts w.sheet (run_of m) i t) (length m.jobs.items) (Some k) = subst (λ (i : Option ℕ). OnlyInside (λ i. can_cut w.cuts w.sheet (run_of m) i t) (length m.jobs.items) i) e kept.segment in
+      let seg : OnlyInside (λ i. can_cut w.cuts w.sheet (run_of m) i t) (length m.jobs.items) (Some k) =
+      subst (λ (i : Option ℕ). OnlyInside (λ i. can_cut w.cuts w.sheet (run_of m) i t) (length m.jobs.items) i) e kept.segment in
       let can : CanRun m.inside k = subst (λ (i : Option ℕ). CanRun i k) (sym e) refl in
       let may : MayBe m (Runs k) = (seg.0, over_cut k seg.0 seg.1, can) in
       subst (MayBe m) (sym (chosen_inside w t (run_of m) m.left.items m.queue m.inside kept k e)) may
@@ -76,12 +82,17 @@ module _ (w : World) (cuts : HasCuts w) (t : ℕ) (m : Simulation) (kept : IsKep
 
 pub run_kept : (p : PolicyMeaning) (m : CutMeaning) (sheet : SheetParts) (t : ℕ) (run : Run) (left : List ℕ) (queue : BTreeMap Rank ℕ) (x : Option ℕ) →
     IsKeptAt p m sheet t run left queue x
-    → (j rest : ℕ) (v : Job) (k : Task) (after : BTreeMap Rank ℕ) (r : Rank) (cut : Bool) (y : Option ℕ) → j < length run.jobs → 0 < left_at left j → CanRun x j → rest ≡ left_at left j - 1
-    → v ≡ job_at run j → k ≡ task_at sheet v.task → r ≡ rank_at p sheet v j → (rest ≡ 0 → Updates rank_cmp queue after r None) → (0 < rest → after ≡ queue) → cut ≡ m.cuttable k v (v.cost - rest) → y ≡ cond cut None (Some j) → IsKeptAt p m sheet (suc t) (with_tick run (Runs j)) (set left j rest) after y
+    → (j rest : ℕ) (v : Job) (k : Task) (after : BTreeMap Rank ℕ) (r : Rank) (cut : Bool) (y : Option ℕ) → j < length run.jobs → 0
+    < left_at left j → CanRun x j → rest ≡ left_at left j - 1
+    → v ≡ job_at run j → k ≡ task_at sheet v.task → r ≡ rank_at p sheet v j → (rest ≡ 0 → Updates rank_cmp queue after r None) →
+    (0 < rest → after ≡ queue) → cut ≡ m.cuttable k v (v.cost - rest) → y ≡ cond cut None (Some j) → IsKeptAt p m sheet (suc t)
+    (with_tick run (Runs j)) (set left j rest) after y
 run_kept p m sheet t run left queue x kept j rest v k after r cut y b waits can amount is_v is_k is_r done stays is_cut is_y =
     let in_left : j < length left = omega (arith, kept.lefts) in
     let rank : r ≡ rank_of p sheet run.jobs j = is_r ∙ ap (λ (u : Job). rank_at p sheet u j) is_v in
-    let tested : cut ≡ m.cuttable (task_at sheet (job_at run j).task) (job_at run j) ((job_at run j).cost - rest) = is_cut ∙ (ap (λ (u : Task). m.cuttable u v (v.cost - rest)) is_k ∙ ap (λ (u : Job). m.cuttable (task_at sheet u.task) u (u.cost - rest)) is_v) in
+    let tested : cut ≡ m.cuttable (task_at sheet (job_at run j).task) (job_at run j) ((job_at run j).cost - rest) =
+    is_cut ∙
+    (ap (λ (u : Task). m.cuttable u v (v.cost - rest)) is_k ∙ ap (λ (u : Job). m.cuttable (task_at sheet u.task) u (u.cost - rest)) is_v) in
     let waiting : IsQueue p sheet run.jobs (set left j rest) after = elim (cases_lt 0 rest) [
       | inl pos ↦ subst (λ (q : BTreeMap Rank ℕ). IsQueue p sheet run.jobs (set left j rest) q) (sym (stays pos)) (queue_run p sheet run.jobs left queue j rest in_left waits pos kept.waiting)
       | inr pos ↦
@@ -89,7 +100,8 @@ run_kept p m sheet t run left queue x kept j rest v k after r cut y b waits can 
           let up : Updates rank_cmp queue after (rank_of p sheet run.jobs j) None = subst (λ (q : Rank). Updates rank_cmp queue after q None) rank (done (omega arith)) in
           subst (λ (i : ℕ). IsQueue p sheet run.jobs (set left j i) after) z (queue_done p sheet run.jobs left queue after j in_left kept.waiting up)
     ] in
-    subst (λ (i : Option ℕ). IsKeptAt p m sheet (suc t) (with_tick run (Runs j)) (set left j rest) after i) (sym is_y) (kept_run p m sheet t run left queue x kept j rest after cut b can (omega arith) waiting tested)
+    subst (λ (i : Option ℕ). IsKeptAt p m sheet (suc t) (with_tick run (Runs j)) (set left j rest) after i) (sym is_y)
+    (kept_run p m sheet t run left queue x kept j rest after cut b can (omega arith) waiting tested)
 
 pub idle_kept : (p : PolicyMeaning) (m : CutMeaning) (sheet : SheetParts) (t : ℕ) (run : Run) (left : List ℕ) (queue : BTreeMap Rank ℕ) (x : Option ℕ) →
     IsKeptAt p m sheet t run left queue x
@@ -109,7 +121,8 @@ pub ticked : (w : World) (t : ℕ) (m : Moment) (may off : Bool) (y : Tick) (run
     → (let r : Moment = record { run = run; state = state } in r) ≡ add_tick w t m
 unfolding add_tick
 ticked w t m may off y run state e f g h i =
-    let is_y : y ≡ cond (is_off w.mode (may_be_off w.sbf m.run t) m.state) Off (choice w m.run t) = g ∙ ap (λ (b : Bool). cond b Off (choice w m.run t)) (f ∙ ap (λ (b : Bool). is_off w.mode b m.state) e) in
+    let is_y : y ≡ cond (is_off w.mode (may_be_off w.sbf m.run t) m.state) Off (choice w m.run t) =
+    g ∙ ap (λ (b : Bool). cond b Off (choice w m.run t)) (f ∙ ap (λ (b : Bool). is_off w.mode b m.state) e) in
     let is_state : state ≡ after_off w.mode (may_be_off w.sbf m.run t) m.state = i ∙ ap (λ (b : Bool). after_off w.mode b m.state) e in
     let is_run : run ≡ with_tick m.run (cond (is_off w.mode (may_be_off w.sbf m.run t) m.state) Off (choice w m.run t)) = h ∙ ap (with_tick m.run) is_y in
     cc

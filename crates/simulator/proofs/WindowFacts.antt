@@ -48,8 +48,10 @@ has_arrivals_more n run lists j longer has b early e = record {
   each = λ o d h. elim (cases_eq o j.task) [
     | inl same ↦
         let in_lists : j.task < length lists = omega (arith, has.tasks) in
-        let own : AreArrivals (with_job run j) j.task ((get_or lists j.task longer).items ++ j.arrival ∷ []) = own_more run j j.task (get_or lists j.task longer).items refl early (has.each j.task longer b) in
-        let at : (get_or lists j.task longer).items ++ j.arrival ∷ [] ≡ (get_or (set lists j.task longer) j.task d).items = sym e ∙ sym (ap (λ (v : Vec ℕ). v.items) (get_or-set_same lists j.task longer d in_lists)) in
+        let own : AreArrivals (with_job run j) j.task ((get_or lists j.task longer).items ++ j.arrival ∷ []) =
+        own_more run j j.task (get_or lists j.task longer).items refl early (has.each j.task longer b) in
+        let at : (get_or lists j.task longer).items ++ j.arrival ∷ [] ≡ (get_or (set lists j.task longer) j.task d).items =
+        sym e ∙ sym (ap (λ (v : Vec ℕ). v.items) (get_or-set_same lists j.task longer d in_lists)) in
         subst (λ i. AreArrivals (with_job run j) i (get_or (set lists j.task longer) i d).items) (sym same) (subst (AreArrivals (with_job run j) j.task) at own)
     | inr ne ↦
         let at : (get_or lists o d).items ≡ (get_or (set lists j.task longer) o d).items = sym (ap (λ (v : Vec ℕ). v.items) (get_or-set_other lists j.task o longer d ne)) in
@@ -58,7 +60,9 @@ has_arrivals_more n run lists j longer has b early e = record {
 }
 
 pub has_arrivals_tick : (n : ℕ) (run : Run) (lists : List (Vec ℕ)) (x : Tick) → HasArrivals n run lists → HasArrivals n (with_tick run x) lists
-has_arrivals_tick n run lists x has = record { tasks = has.tasks; each = λ o d h. record { ascending = (has.each o d h).ascending; same = lists_tick run o (get_or lists o d).items x (has.each o d h).same } }
+has_arrivals_tick n run lists x has =
+    record
+    { tasks = has.tasks; each = λ o d h. record { ascending = (has.each o d h).ascending; same = lists_tick run o (get_or lists o d).items x (has.each o d h).same } }
 
 pub has_no_arrivals : (n : ℕ) (lists : List (Vec ℕ)) → length lists ≡ n →
     ((o : ℕ) (d : Vec ℕ) → o < n → (get_or lists o d).items ≡ []) →
@@ -82,7 +86,9 @@ supplied_split : (run : Run) (s d : ℕ) → s + d ≤ length run.ticks → tick
 supplied_split run s zero h = rw add-zero (omega (arith, ticks_in_none is_on run s))
 supplied_split run s (suc d) h =
     let z : 0 + (s + d) ≡ s + d = omega arith in
-    let front : ticks_in is_on run 0 (suc (s + d)) ≡ ticks_in is_on run 0 (s + d) + cond {A = ℕ} (is_on (tick_at run (s + d))) 1 0 = ticks_in_more is_on run 0 (s + d) (omega arith) ∙ ap (λ (i : ℕ). ticks_in is_on run 0 (s + d) + cond {A = ℕ} (is_on (tick_at run i)) 1 0) z in
+    let front : ticks_in is_on run 0 (suc (s + d)) ≡ ticks_in is_on run 0 (s + d) + cond {A = ℕ} (is_on (tick_at run (s + d))) 1 0 =
+    ticks_in_more is_on run 0 (s + d) (omega arith) ∙ ap
+    (λ (i : ℕ). ticks_in is_on run 0 (s + d) + cond {A = ℕ} (is_on (tick_at run i)) 1 0) z in
     rw add-suc (omega (arith, supplied_split run s d (omega arith), front, ticks_in_more is_on run s d (omega arith)))
 
 pub are_counts_more : (t : ℕ) (run : Run) (counts : List ℕ) (x : Tick) (n : ℕ) → length run.ticks ≡ t →
@@ -110,6 +116,13 @@ promised_is w t run counts sound are = record {
   counted = are.counted;
   kept = λ s u h l. (
       let e : s + (u - s) ≡ u = omega arith in
-      omega (arith, sound.complies.supplied s u h (omega (arith, sound.now)), supplied_split run s (u - s) (omega (arith, sound.now)), ap (ticks_in is_on run 0) e, are.each s (omega arith), are.each u l)
+      omega (
+        arith,
+        sound.complies.supplied s u h (omega (arith, sound.now)),
+        supplied_split run s (u - s) (omega (arith, sound.now)),
+        ap (ticks_in is_on run 0) e,
+        are.each s (omega arith),
+        are.each u l,
+      )
       );
 }

@@ -36,15 +36,23 @@ returns g c =
     let run : Run = record { jobs = c.new.result; ticks = c.new-2.result } in
     let here : run ≡ run_of m = run_is (run_of m) c.new.result c.new-2.result c.new.ensures c.new-2.ensures in
     let stated : run ≡ simulated_run w c.args.n = simulated_is w c.args.n c.loop-t.t (moment_of m) run (omega arith) c.loop-t.invariant.moment here in
-    let is : run ≡ simulated_run (world_of w.policy w.cuts sbf w.sheet w.mode) c.args.n = subst (λ (f : ℕ → ℕ). run ≡ simulated_run (world_of w.policy w.cuts f w.sheet w.mode) c.args.n) (sym c.requires.stated) stated in
+    let is : run ≡ simulated_run (world_of w.policy w.cuts sbf w.sheet w.mode) c.args.n =
+    subst (λ (f : ℕ → ℕ). run ≡ simulated_run (world_of w.policy w.cuts f w.sheet w.mode) c.args.n) (sym c.requires.stated)
+    stated in
     let sheet = c.args.sheet.now in
     let n = c.args.n in
     let kept = c.loop-t.invariant.kept.jobs in
     let valid = c.in_ok-simulation.ensures.valid in
     record {
       exact = simulated (world_of w.policy w.cuts sbf w.sheet w.mode) c.args.n run is (subst (λ (r : Run). refused_by r.jobs ≡ None) (sym here) kept.within.none);
-      complies = subst (IsCompliant w.policy w.cuts sbf w.sheet) (sym is) (c.simulation_complies.ensures c.args.supply.now c.known.ensures w.sheet valid c.requires.served w.mode c.args.n);
+      complies =
+          subst (IsCompliant w.policy w.cuts sbf w.sheet) (sym is)
+          (c.simulation_complies.ensures c.args.supply.now c.known.ensures w.sheet valid c.requires.served w.mode c.args.n);
       prompt = subst IsPrompt (sym here) (λ k b. (kept.known k b).prompt);
-      full = λ dense. subst (IsDense sheet n) (sym is) (subst (λ (mode : Mode). IsDense sheet n (simulated_run (world_of w.policy w.cuts sbf sheet mode) n)) (sym dense) (c.dense_is_full.ensures c.args.supply.now c.known.ensures sheet valid n));
-      within = subst IsWithinLimits (sym here) (kept_within w.policy w.cuts w.sheet c.loop-t.t (run_of m) m.left.items m.queue m.inside kept valid (λ o b. g.met.M.Tabled.tabled (task_at w.sheet o) (c.requires.served o b)) (omega arith));
+      full =
+          λ dense. subst (IsDense sheet n) (sym is)
+          (subst (λ (mode : Mode). IsDense sheet n (simulated_run (world_of w.policy w.cuts sbf sheet mode) n)) (sym dense) (c.dense_is_full.ensures c.args.supply.now c.known.ensures sheet valid n));
+      within =
+          subst IsWithinLimits (sym here)
+          (kept_within w.policy w.cuts w.sheet c.loop-t.t (run_of m) m.left.items m.queue m.inside kept valid (λ o b. g.met.M.Tabled.tabled (task_at w.sheet o) (c.requires.served o b)) (omega arith));
     }

@@ -8,5 +8,7 @@ returns-in_default g c =
     let m = c.args.simulation.now in
     record {
       rest = record { jobs = refl; ticks = refl; words = refl; segments = refl; arrivals = refl; counts = refl };
-      kept = idle_kept g.P.Policy.meaning g.M.Preemption.cuts c.args.sheet.now (length m.ticks.items) (run_of m) m.left.items m.queue m.inside c.requires.kept.jobs c.args.tick c.in_default.not-Runs;
+      kept =
+          idle_kept g.P.Policy.meaning g.M.Preemption.cuts c.args.sheet.now (length m.ticks.items) (run_of m) m.left.items m.queue
+          m.inside c.requires.kept.jobs c.args.tick c.in_default.not-Runs;
     }

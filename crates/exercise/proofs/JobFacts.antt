@@ -52,7 +52,13 @@ jobs_most seed n t run some ok =
     let long : 0 + t - 0 ≡ t = omega arith in
     let each =
     all_by_task (λ o. 1) (λ o. t) 0 n run tasks (λ o. t / (2 * n) + 1)
-    (λ o b. omega (arith, ok.complies.curves o 0 (0 + t) (omega (arith, sheet_count seed n)) (omega arith), ap (alpha_of (task_at (generated_sheet seed n) o).curve) long, curve_most seed n o t some b)) in
+    (λ o b. omega (
+      arith,
+      ok.complies.curves o 0 (0 + t) (omega (arith, sheet_count seed n)) (omega arith),
+      ap (alpha_of (task_at (generated_sheet seed n) o).curve) long,
+      curve_most seed n o t some b,
+    ))
+    in
     omega (
       arith,
       each,

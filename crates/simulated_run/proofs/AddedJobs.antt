@@ -15,7 +15,8 @@ use Rattle.simulated_run.specs.SimulatedRun.{World, with_job}
 use Rattle.simulated_run.proofs.RunFacts.{job_kept, job_new, jobs_more, arrivals_more, arrivals_le, service_unlisted}
 use Rattle.simulated_run.proofs.Soundness.{IsLawful, IsSound, HasRoom}
 
-module _ (w : World) (laws : IsLawful w) (t : ℕ) (run : Run) (sound : IsSound w t run) (j : Job) (of : IsOf w.sheet j) (at_t : j.arrival ≡ t) (prompt : j.release ≡ j.arrival) (fits : w.cuts.fits (task_at w.sheet j.task) j ≡ true) where
+module _ (w : World) (laws : IsLawful w) (t : ℕ) (run : Run) (sound : IsSound w t run) (j : Job) (of : IsOf w.sheet j)
+    (at_t : j.arrival ≡ t) (prompt : j.release ≡ j.arrival) (fits : w.cuts.fits (task_at w.sheet j.task) j ≡ true) where
   timely : IsTimely w.sheet j
   timely = record { after = omega arith; soon = omega arith }
 
@@ -45,7 +46,12 @@ module _ (w : World) (laws : IsLawful w) (t : ℕ) (run : Run) (sound : IsSound 
   old_pending : (k u : ℕ) → u < t → IsPending (with_job run j) k u → IsPending run k u
   unfolding with_job service_of
   old_pending k u h p = elim (cases_lt k (length run.jobs)) [
-    | inl c ↦ record { listed = c; released = subst (λ (v : Job). v.release ≤ u) (job_kept run j k c) p.released; not_done = subst (λ (v : Job). service_of run k u < v.cost) (job_kept run j k c) p.not_done }
+    | inl c ↦
+        record {
+          listed = c;
+          released = subst (λ (v : Job). v.release ≤ u) (job_kept run j k c) p.released;
+          not_done = subst (λ (v : Job). service_of run k u < v.cost) (job_kept run j k c) p.not_done;
+        }
     | inr c ↦
         let l = p.listed in
         let a = p.released in
@@ -57,7 +63,11 @@ module _ (w : World) (laws : IsLawful w) (t : ℕ) (run : Run) (sound : IsSound 
   unfolding with_job service_of
   still_pending k u p =
       let l = p.listed in
-      record { listed = omega (arith, jobs_more run j); released = subst (λ (v : Job). v.release ≤ u) (sym (job_kept run j k l)) p.released; not_done = subst (λ (v : Job). service_of run k u < v.cost) (sym (job_kept run j k l)) p.not_done }
+      record {
+        listed = omega (arith, jobs_more run j);
+        released = subst (λ (v : Job). v.release ≤ u) (sym (job_kept run j k l)) p.released;
+        not_done = subst (λ (v : Job). service_of run k u < v.cost) (sym (job_kept run j k l)) p.not_done;
+      }
 
   job_of_tick : (u k : ℕ) → u < t → tick_at run u ≡ Runs k → job_at (with_job run j) k ≡ job_at run k
   job_of_tick u k h e = job_kept run j k (sound.complies.valid.ticks u k (omega (arith, sound.now)) e).pending.listed
@@ -110,8 +120,11 @@ module _ (w : World) (laws : IsLawful w) (t : ℕ) (run : Run) (sound : IsSound 
         ticks = λ u k h e. record {
           pending = still_pending k u (sound.complies.valid.ticks u k h e).pending;
           in_order = λ n b. each (λ i v. v.task ≡ (job_at (with_job run j) k).task → v.arrival < (job_at (with_job run j) k).arrival → v.cost ≤ service_of run i u)
-              (λ i c same less. (sound.complies.valid.ticks u k h e).in_order i c (same ∙ ap (λ (v : Job). v.task) (job_of_tick u k (omega (arith, sound.now)) e)) (omega (arith, less, ap (λ (v : Job). v.arrival) (job_of_tick u k (omega (arith, sound.now)) e))))
-              (λ same less. absurd (omega (arith, less, ap (λ (v : Job). v.arrival) (job_of_tick u k (omega (arith, sound.now)) e), sound.early k (sound.complies.valid.ticks u k h e).pending.listed)))
+              (λ i c same less. (sound.complies.valid.ticks u k h e).in_order i c
+              (same ∙ ap (λ (v : Job). v.task) (job_of_tick u k (omega (arith, sound.now)) e))
+              (omega (arith, less, ap (λ (v : Job). v.arrival) (job_of_tick u k (omega (arith, sound.now)) e))))
+              (λ same less. absurd
+              (omega (arith, less, ap (λ (v : Job). v.arrival) (job_of_tick u k (omega (arith, sound.now)) e), sound.early k (sound.complies.valid.ticks u k h e).pending.listed)))
               n b;
         };
       };
@@ -132,14 +145,16 @@ module _ (w : World) (laws : IsLawful w) (t : ℕ) (run : Run) (sound : IsSound 
     };
     ahead =
         λ k n bk bn. each
-        (λ i v. 0 < service_of run i t → (job_at (with_job run j) n).task ≡ v.task → (job_at (with_job run j) n).arrival < v.arrival → (job_at (with_job run j) n).cost ≤ service_of run n t)
+        (λ i v. 0 < service_of run i t → (job_at (with_job run j) n).task ≡ v.task → (job_at (with_job run j) n).arrival <
+        v.arrival → (job_at (with_job run j) n).cost ≤ service_of run n t)
         (λ i b p. each (λ m v. v.task ≡ (job_at run i).task → v.arrival < (job_at run i).arrival → v.cost ≤ service_of run m t)
         (λ m c same less. sound.ahead i m b c p same less)
         (λ same less. absurd (omega (arith, sound.early i b))) n bn)
         (λ p same less. absurd (omega (arith, unserved t (omega arith)))) k bk;
     single =
         λ k n bk bn. each
-        (λ i v. w.cuts.cuttable (task_at w.sheet v.task) v (service_of run i t) ≡ false → w.cuts.cuttable (task_at w.sheet (job_at (with_job run j) n).task) (job_at (with_job run j) n) (service_of run n t) ≡ false → i ≡ n)
+        (λ i v. w.cuts.cuttable (task_at w.sheet v.task) v (service_of run i t) ≡ false → w.cuts.cuttable
+        (task_at w.sheet (job_at (with_job run j) n).task) (job_at (with_job run j) n) (service_of run n t) ≡ false → i ≡ n)
         (λ i b f. each (λ m v. w.cuts.cuttable (task_at w.sheet v.task) v (service_of run m t) ≡ false → i ≡ m)
         (λ m c g. sound.single i m b c f g)
         (λ g. absurd (let t = at_new t (omega arith) in cc)) n bn)

@@ -68,7 +68,8 @@ module _ (w : World) (laws : IsLawful w) (t : ℕ) (run : Run) (sound : IsSound 
       λ i q. best_first (λ i. is_pending run i t) (comes_before w run) (length run.jobs) k i (comes_chain w run)
       (comes_itself w run) is q.listed (pending_to run i t q) in
       let pends : IsPending run k t = pending_from run k t p in
-      let orders : (n : ℕ) → n < length run.jobs → (job_at run n).task ≡ (job_at run k).task → (job_at run n).arrival < (job_at run k).arrival → IsDone run n t = λ n c same less. elim (cases_lt (service_of run n t) (job_at run n).cost) [
+      let orders : (n : ℕ) → n < length run.jobs → (job_at run n).task ≡ (job_at run k).task → (job_at run n).arrival < (job_at run k).arrival → IsDone run n t =
+      λ n c same less. elim (cases_lt (service_of run n t) (job_at run n).cost) [
         | inr l ↦ l
         | inl l ↦
             let q : IsPending run n t = record { listed = c; released = omega (arith, (sound.complies.valid.releases k b).order n c same less, pends.released); not_done = l } in
@@ -234,8 +235,7 @@ module _ (w : World) (laws : IsLawful w) (t : ℕ) (run : Run) (sound : IsSound 
 
     may_run_there : (k u : ℕ) → u ≤ t → MayRun run k u → MayRun (with_tick run y) k u
     may_run_there k u h m =
-        record
-        { pending = there k u h m.pending; in_order = λ n b same less. done_there n u h (m.in_order n (old_job n b) (old_task n k same) (old_arrival n k less)) }
+        record { pending = there k u h m.pending; in_order = λ n b same less. done_there n u h (m.in_order n (old_job n b) (old_task n k same) (old_arrival n k less)) }
 
     sound_ahead : (k n : ℕ) → k < length (with_tick run y).jobs → n < length (with_tick run y).jobs →
         0 < service_of (with_tick run y) k (suc t) →
@@ -286,7 +286,11 @@ module _ (w : World) (laws : IsLawful w) (t : ℕ) (run : Run) (sound : IsSound 
             (sym (cut_same k u (in_ticks u h)) ∙ f);
         policy =
             λ u k n h e c p. old_keys k n
-            (at_each (λ i x. x ≡ Runs k → can_cut w.cuts w.sheet run k i ≡ true → IsPending run n i → key_le (w.policy.key w.sheet (job_at run k)) (w.policy.key w.sheet (job_at run n)) ≡ true) (λ i c. sound.complies.policy i k n c) (follows.policy k n) u h e (sym (cut_same k u (in_ticks u h)) ∙ c) (back n u (in_ticks u h) p));
+            (at_each
+            (λ i x. x ≡ Runs k → can_cut w.cuts w.sheet run k i ≡ true → IsPending run n i → key_le
+            (w.policy.key w.sheet (job_at run k)) (w.policy.key w.sheet (job_at run n)) ≡ true)
+            (λ i c. sound.complies.policy i k n c) (follows.policy k n) u h e (sym (cut_same k u (in_ticks u h)) ∙ c)
+            (back n u (in_ticks u h) p));
       };
       ahead = sound_ahead;
       single = sound_single;

@@ -66,7 +66,8 @@ module _ (w : World) (run : Run) (t : ℕ) where
   pub some_urgent : (k : ℕ) → IsPending run k t → ((n : ℕ) → IsPending run n t → n ≢ k → comes_before w run k n ≡ true) → most_urgent w run t ≡ Some k
   unfolding most_urgent
   some_urgent k p first =
-      best_some (λ k. is_pending run k t) (comes_before w run) k (length run.jobs) p.listed (pending_to run k t p) (λ n b h ne. (let f = first n (pending_from run n t h) ne in (f, comes_once w run k n f)))
+      best_some (λ k. is_pending run k t) (comes_before w run) k (length run.jobs) p.listed (pending_to run k t p)
+      (λ n b h ne. (let f = first n (pending_from run n t h) ne in (f, comes_once w run k n f)))
 
   pub none_urgent : ((k : ℕ) → IsPending run k t → ⊥) → most_urgent w run t ≡ None
   unfolding most_urgent

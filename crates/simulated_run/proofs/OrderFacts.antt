@@ -42,7 +42,9 @@ place_cmp a b =
 pub place_total : IsTotalOrder place_cmp
 place_total =
     then_total (on_total (λ (r : Place). r.high) int_cmp_total)
-    (then_total (on_total (λ (r : Place). r.low) int_cmp_total) (then_total (on_total (λ (r : Place). r.task) nat_cmp_total) (then_total (on_total (λ (r : Place). r.arrival) nat_cmp_total) (on_total (λ (r : Place). r.number) nat_cmp_total))))
+    (then_total (on_total (λ (r : Place). r.low) int_cmp_total)
+    (then_total (on_total (λ (r : Place). r.task) nat_cmp_total)
+    (then_total (on_total (λ (r : Place). r.arrival) nat_cmp_total) (on_total (λ (r : Place). r.number) nat_cmp_total))))
 
 number_is : (k n : ℕ) → nat_lt k n ≡ is_lt (nat_cmp k n)
 number_is k n = grind (arith, nat_tests)

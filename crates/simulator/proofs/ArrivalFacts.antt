@@ -61,8 +61,14 @@ new_is mode m sheet o t state jobs b ok law tabled few short =
     let fits : m.fits (task_at sheet o) (new_job mode (task_at sheet o) o t state) ≡ true = new_fits_by mode (task_at sheet o) ok o t state m tabled in
     record {
       known =
-          record
-          { task = b; arrived = omega arith; prompt = refl; cost = omega (arith, new_cost_high mode (task_at sheet o) ok o t state, ok.cost_high); fits = fits; floats = new_floats mode (task_at sheet o) o t state };
+          record {
+            task = b;
+            arrived = omega arith;
+            prompt = refl;
+            cost = omega (arith, new_cost_high mode (task_at sheet o) ok o t state, ok.cost_high);
+            fits = fits;
+            floats = new_floats mode (task_at sheet o) o t state;
+          };
       positive = new_cost_low mode (task_at sheet o) ok o t state;
       cut = law.cut_first (new_job mode (task_at sheet o) o t state) fits;
       few_jobs = few;
@@ -76,7 +82,9 @@ pub made_new : (mode : Mode) (m : CutMeaning) (sheet : SheetParts) (o t state : 
 made_new mode m sheet o t state jobs job e b ok law tabled few short =
     subst (IsNew m sheet jobs) (sym e) (new_is mode m sheet o t state jobs b ok law tabled few (subst (λ (v : Job). segments_of jobs + length v.segs ≤ 1000000) e short))
 
-module _ (p : PolicyMeaning) (m : CutMeaning) (sheet : SheetParts) (t : ℕ) (run : Run) (left : List ℕ) (queue : BTreeMap Rank ℕ) (x : Option ℕ) (total : ℕ) (lists : List (Vec ℕ)) (sums : List ℕ) (kept : IsKeptBy p m sheet t run left queue x total lists sums) where
+module _ (p : PolicyMeaning) (m : CutMeaning) (sheet : SheetParts) (t : ℕ) (run : Run) (left : List ℕ) (queue : BTreeMap Rank ℕ)
+    (x : Option ℕ) (total : ℕ) (lists : List (Vec ℕ)) (sums : List ℕ)
+    (kept : IsKeptBy p m sheet t run left queue x total lists sums) where
   -- the simulation after a new job
   pub kept_with : (j : Job) (n : ℕ) (r : Rank) (after : BTreeMap Rank ℕ) (run' : Run) (left' : List ℕ) (total' : ℕ) (lists' : List (Vec ℕ)) (longer : Vec ℕ) →
       IsNew m sheet run.jobs j → j.arrival ≡ t → n ≡ length run.jobs → r ≡ rank_at p sheet j n →
@@ -182,8 +190,7 @@ pub lawful_world : (p : PolicyMeaning) (m : CutMeaning) (sheet : SheetParts) (mo
     IsLawfulPolicy p sheet → HasCuts (world_by p m sheet mode) → IsTabled (world_by p m sheet mode) →
     IsLawful (world_by p m sheet mode)
 lawful_world p m sheet mode valid policy cuts tabled =
-    record
-    { sheet = valid; policy = policy; cuts = cuts; tabled = tabled; starts = stated_starts sheet valid; rises = λ d. (stated_grows sheet d valid).1 }
+    record { sheet = valid; policy = policy; cuts = cuts; tabled = tabled; starts = stated_starts sheet valid; rises = λ d. (stated_grows sheet d valid).1 }
 
 pub allowance_small : (curve : Curve) (arrivals : List ℕ) (t : ℕ) → IsCurve curve → allowance_in curve arrivals t ≤ 2000000
 unfolding allowance_in

@@ -55,7 +55,9 @@ others_cut cut n (Some i) j k h can b ne = h.2 k b (λ e. ne (e ∙ sym can))
 only_ran : (cut new : ℕ → Bool) (n j : ℕ) (x : Option ℕ) → j < n → CanRun x j →
     ((k : ℕ) → k < n → k ≢ j → new k ≡ cut k) → OnlyInside cut n x → OnlyInside new n (cond (new j) None (Some j))
 only_ran cut new n j x b can same h = elim (cases_Bool (new j)) [
-  | inl e ↦ subst (λ (w : Bool). OnlyInside new n (cond w None (Some j))) (sym e) (λ k c. elim (cases_eq k j) [ inl at ↦ subst (λ w. new w ≡ true) (sym at) e | inr ne ↦ same k c ne ∙ others_cut cut n x j k h can c ne ])
+  | inl e ↦
+      subst (λ (w : Bool). OnlyInside new n (cond w None (Some j))) (sym e)
+      (λ k c. elim (cases_eq k j) [ inl at ↦ subst (λ w. new w ≡ true) (sym at) e | inr ne ↦ same k c ne ∙ others_cut cut n x j k h can c ne ])
   | inr e ↦ subst (λ (w : Bool). OnlyInside new n (cond w None (Some j))) (sym e) (b, e, (λ k c ne. same k c ne ∙ others_cut cut n x j k h can c ne))
 ]
 
@@ -64,7 +66,8 @@ only_first : (cut : ℕ → Bool) (n : ℕ) (x : Option ℕ) → OnlyInside cut 
 only_first cut n None h = first_none cut n h
 only_first cut n (Some j) h = first_some cut j n h.0 h.1 (λ k b. h.2 k (let c = h.0 in omega arith) (λ e. omega arith))
 
-module _ (p : PolicyMeaning) (m : CutMeaning) (sheet : SheetParts) (t : ℕ) (run : Run) (left : List ℕ) (queue : BTreeMap Rank ℕ) (x : Option ℕ) (kept : IsKeptAt p m sheet t run left queue x) where
+module _ (p : PolicyMeaning) (m : CutMeaning) (sheet : SheetParts) (t : ℕ) (run : Run) (left : List ℕ) (queue : BTreeMap Rank ℕ)
+    (x : Option ℕ) (kept : IsKeptAt p m sheet t run left queue x) where
   pub kept_tells : Tells run left t
   kept_tells = record {
     waits = λ k b pos. (let a = kept.amounts k b in let r = (kept.known k b).arrived in let p = (kept.known k b).prompt in grind (arith, nat_tests));
@@ -105,7 +108,9 @@ module _ (p : PolicyMeaning) (m : CutMeaning) (sheet : SheetParts) (t : ℕ) (ru
     waiting = queue_push p sheet run.jobs left queue after j j.cost n (sym len) (omega (arith, kept.lefts)) pos kept.waiting up;
     segment = only_more (λ k. can_cut m sheet run k t) (λ k. can_cut m sheet (with_job run j) k t) (length run.jobs) (length (with_job run j).jobs) x (jobs_more run j)
         (λ k b. ap (λ (v : Job). m.cuttable (task_at sheet v.task) v (service_of run k t)) (job_kept run j k b))
-        (ap (λ (v : Job). m.cuttable (task_at sheet v.task) v (service_of run (length run.jobs) t)) (job_new run j (length run.jobs) refl) ∙ (ap (m.cuttable (task_at sheet j.task) j) (unserved (length run.jobs) (omega arith)) ∙ cut))
+        (ap (λ (v : Job). m.cuttable (task_at sheet v.task) v (service_of run (length run.jobs) t))
+        (job_new run j (length run.jobs) refl) ∙
+        (ap (m.cuttable (task_at sheet j.task) j) (unserved (length run.jobs) (omega arith)) ∙ cut))
         kept.segment;
     within = within_more run.jobs j kept.within few short;
   }
@@ -158,12 +163,22 @@ module _ (p : PolicyMeaning) (m : CutMeaning) (sheet : SheetParts) (t : ℕ) (ru
         listed = listed_then (Runs j) (λ k e. (let is_j : j ≡ k = cc in omega arith));
         lefts = omega (arith, length-set left j rest, kept.lefts);
         amounts = λ k c. elim (cases_eq k j) [
-          | inl e ↦ omega (arith, kept.amounts j b, here, get_or-set_same left j rest 0 (omega (arith, kept.lefts)), ap (λ i. left_at (set left j rest) i) e, ap (λ i. service_of (with_tick run (Runs j)) i (suc t)) e, ap (λ i. (job_at run i).cost) e)
+          | inl e ↦
+              omega (
+                arith,
+                kept.amounts j b,
+                here,
+                get_or-set_same left j rest 0 (omega (arith, kept.lefts)),
+                ap (λ i. left_at (set left j rest) i) e,
+                ap (λ i. service_of (with_tick run (Runs j)) i (suc t)) e,
+                ap (λ i. (job_at run i).cost) e,
+              )
           | inr ne ↦ omega (arith, kept.amounts k c, other k ne, get_or-set_other left j k rest 0 ne)
         ];
         waiting = waiting;
         segment = subst (λ (v : Bool). OnlyInside (λ k. can_cut m sheet (with_tick run (Runs j)) k (suc t)) (length run.jobs) (cond v None (Some j))) new_cut
-            (only_ran (λ k. can_cut m sheet run k t) (λ k. can_cut m sheet (with_tick run (Runs j)) k (suc t)) (length run.jobs) j x b can (λ k c ne. ap (m.cuttable (task_at sheet (job_at run k).task) (job_at run k)) (other k ne)) kept.segment);
+            (only_ran (λ k. can_cut m sheet run k t) (λ k. can_cut m sheet (with_tick run (Runs j)) k (suc t)) (length run.jobs) j
+            x b can (λ k c ne. ap (m.cuttable (task_at sheet (job_at run k).task) (job_at run k)) (other k ne)) kept.segment);
         within = kept.within;
       }
 

@@ -49,15 +49,23 @@ module _ (jobs : List Job) (j : Job) (within : IsWithin jobs) where
   pub too_many_segments : length jobs < 20000 → 1000000 < segments_of jobs + length j.segs → refused_by (jobs ++ j ∷ []) ≡ Some Segments
   too_many_segments few h =
       refused_more jobs j
-      ∙ rw
-      (within.none, must_from (ltb (length jobs) 20000) Jobs (lt-ltb _ _ few), segments_then jobs j, must_fails (leb (segments_of jobs + length j.segs) 1000000) Segments (lt-leb _ _ h))
+      ∙ rw (
+        within.none,
+        must_from (ltb (length jobs) 20000) Jobs (lt-ltb _ _ few),
+        segments_then jobs j,
+        must_fails (leb (segments_of jobs + length j.segs) 1000000) Segments (lt-leb _ _ h),
+      )
       refl
 
   pub within_more : length jobs < 20000 → segments_of jobs + length j.segs ≤ 1000000 → IsWithin (jobs ++ j ∷ [])
   within_more few h = record {
     none =
-        refused_more jobs j ∙ rw
-        (within.none, must_from (ltb (length jobs) 20000) Jobs (lt-ltb _ _ few), segments_then jobs j, must_from (leb (segments_of jobs + length j.segs) 1000000) Segments (le-leb _ _ h))
+        refused_more jobs j ∙ rw (
+          within.none,
+          must_from (ltb (length jobs) 20000) Jobs (lt-ltb _ _ few),
+          segments_then jobs j,
+          must_from (leb (segments_of jobs + length j.segs) 1000000) Segments (le-leb _ _ h),
+        )
         refl;
     few_jobs = omega (arith, length_more jobs j);
     few_segments = omega (arith, segments_more jobs j);

@@ -31,7 +31,8 @@ use Rattle.simulator.specs.SimulationState.{IsEntry, IsQueue, left_at}
 pub rank_total : IsTotalOrder rank_cmp
 rank_total =
     then_total (on_total (λ (r : Rank). r.high) int_cmp_total)
-    (then_total (on_total (λ (r : Rank). r.low) int_cmp_total) (then_total (on_total (λ (r : Rank). r.task) nat_cmp_total) (then_total (on_total (λ (r : Rank). r.arrival) nat_cmp_total) (on_total (λ (r : Rank). r.number) nat_cmp_total))))
+    (then_total (on_total (λ (r : Rank). r.low) int_cmp_total)
+    (then_total (on_total (λ (r : Rank). r.task) nat_cmp_total) (then_total (on_total (λ (r : Rank). r.arrival) nat_cmp_total) (on_total (λ (r : Rank). r.number) nat_cmp_total))))
 
 eq_tells : (o : Ordering) → is_eq o ≡ true → o ≡ Equal
 eq_tells Less h = absurd (cc)
@@ -100,12 +101,16 @@ module _ (p : PolicyMeaning) (sheet : SheetParts) where
               let got : get rank_cmp after s ≡ Some n = up.0 s ∙ ap (λ (b : Bool). cond b (Some n) (get rank_cmp queue s)) e in
               let is_k : n ≡ k = cc in
               let here : IsEntry p sheet (jobs ++ j ∷ []) (left ++ c ∷ []) s n =
-              record
-              { listed = omega (arith, length_more jobs j); waits = omega (arith, left_new); rank = sym (same_entry r s e) ∙ of_new } in
+              record { listed = omega (arith, length_more jobs j); waits = omega (arith, left_new); rank = sym (same_entry r s e) ∙ of_new } in
               subst (λ i. IsEntry p sheet (jobs ++ j ∷ []) (left ++ c ∷ []) s i) is_k here
           | inr e ↦
               let old : IsEntry p sheet jobs left s k = q.sound s k (sym (up.2 s e) ∙ h) in
-              record { listed = omega (arith, length_more jobs j, old.listed); waits = omega (arith, old.waits, get_or_append_left left (c ∷ []) 0 k (omega (arith, old.listed))); rank = old.rank ∙ sym (rank_kept jobs j k old.listed) }
+              record {
+                listed = omega (arith, length_more jobs j, old.listed);
+                waits = omega (arith, old.waits, get_or_append_left left (c ∷ []) 0 k (omega (arith, old.listed)));
+                rank = old.rank ∙ sym
+                    (rank_kept jobs j k old.listed);
+              }
         ];
         complete = λ k h l. elim (cases_lt k n) [
           | inl b ↦
@@ -126,7 +131,12 @@ module _ (p : PolicyMeaning) (sheet : SheetParts) where
   queue_run jobs left queue i c b l pos q = record {
     sound = λ s k h. (
         let old : IsEntry p sheet jobs left s k = q.sound s k h in
-        record { listed = old.listed; rank = old.rank; waits = elim (cases_eq k i) [ inl e ↦ omega (arith, ap (left_at (set left i c)) e, get_or-set_same left i c 0 b) | inr ne ↦ omega (arith, old.waits, get_or-set_other left i k c 0 ne) ] }
+        record {
+          listed = old.listed;
+          rank = old.rank;
+          waits = elim (cases_eq k i)
+              [ inl e ↦ omega (arith, ap (left_at (set left i c)) e, get_or-set_same left i c 0 b) | inr ne ↦ omega (arith, old.waits, get_or-set_other left i k c 0 ne) ];
+        }
         );
     complete = λ k h m. q.complete k h (elim (cases_eq k i) [ inl e ↦ omega (arith, ap (left_at left) e) | inr ne ↦ omega (arith, m, get_or-set_other left i k c 0 ne) ]);
   }

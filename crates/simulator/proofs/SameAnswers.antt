@@ -24,7 +24,9 @@ pub allowance_same : (c : Curve) (o : ℕ) (run : Run) (xs : List ℕ) (t : ℕ)
 unfolding allowance_in allowance_of
 allowance_same c o run xs t same =
     greatest_same (admits_in c xs t) (admits c o run t) (alpha_of c 1)
-    (λ g. all_same (λ s. leb (arrived_in xs s t + g) (alpha_of c (t + 1 - s))) (λ s. leb (arrivals_of run o s t + g) (alpha_of c (t + 1 - s))) (t + 1) (λ s b. ap (λ (n : ℕ). leb (n + g) (alpha_of c (t + 1 - s))) (same s (omega arith))))
+    (λ g. all_same (λ s. leb (arrived_in xs s t + g) (alpha_of c (t + 1 - s)))
+    (λ s. leb (arrivals_of run o s t + g) (alpha_of c (t + 1 - s))) (t + 1)
+    (λ s b. ap (λ (n : ℕ). leb (n + g) (alpha_of c (t + 1 - s))) (same s (omega arith))))
 
 -- the list has the arrivals of task o: as many in each window
 abbrev pub ListsArrivals : Run → ℕ → List ℕ → Type 0
@@ -62,7 +64,13 @@ pub counts_tick : (run : Run) (tick : Tick) (counts : List ℕ) (t x : ℕ) → 
 counts_tick run tick counts t x e are is =
     let same = counts_with run tick counts t e are in
     counts_more (with_tick run tick) counts t x same
-    (omega (arith, is, same.each t (omega arith), supplied_more (with_tick run tick) t (omega (arith, ticks_more run tick)), ap (λ (x : Tick). cond {A = ℕ} (is_on x) 1 0) (tick_new run tick t e)))
+    (omega (
+      arith,
+      is,
+      same.each t (omega arith),
+      supplied_more (with_tick run tick) t (omega (arith, ticks_more run tick)),
+      ap (λ (x : Tick). cond {A = ℕ} (is_on x) 1 0) (tick_new run tick t e),
+    ))
 
 pub counts_job : (run : Run) (job : Job) (counts : List ℕ) (t : ℕ) → AreCounts run counts t → AreCounts (with_job run job) counts t
 unfolding with_job ticks_in

@@ -94,7 +94,9 @@ run_kept p m sheet t run left queue x kept j rest v k after r cut y b waits can 
     is_cut ∙
     (ap (λ (u : Task). m.cuttable u v (v.cost - rest)) is_k ∙ ap (λ (u : Job). m.cuttable (task_at sheet u.task) u (u.cost - rest)) is_v) in
     let waiting : IsQueue p sheet run.jobs (set left j rest) after = elim (cases_lt 0 rest) [
-      | inl pos ↦ subst (λ (q : BTreeMap Rank ℕ). IsQueue p sheet run.jobs (set left j rest) q) (sym (stays pos)) (queue_run p sheet run.jobs left queue j rest in_left waits pos kept.waiting)
+      | inl pos ↦
+          subst (λ (q : BTreeMap Rank ℕ). IsQueue p sheet run.jobs (set left j rest) q) (sym (stays pos))
+          (queue_run p sheet run.jobs left queue j rest in_left waits pos kept.waiting)
       | inr pos ↦
           let z : 0 ≡ rest = omega arith in
           let up : Updates rank_cmp queue after (rank_of p sheet run.jobs j) None = subst (λ (q : Rank). Updates rank_cmp queue after q None) rank (done (omega arith)) in
@@ -127,9 +129,12 @@ ticked w t m may off y run state e f g h i =
     let is_run : run ≡ with_tick m.run (cond (is_off w.mode (may_be_off w.sbf m.run t) m.state) Off (choice w m.run t)) = h ∙ ap (with_tick m.run) is_y in
     cc
 
-pub kept_then : (p : PolicyMeaning) (m : CutMeaning) (sheet : SheetParts) (t : ℕ) (run run' : Run) (left left' : List ℕ) (queue queue' : BTreeMap Rank ℕ) (x x' : Option ℕ) (total total' : ℕ) (lists lists' : List (Vec ℕ)) (sums sums' : List ℕ) (y : Tick) (n : ℕ) →
+pub kept_then : (p : PolicyMeaning) (m : CutMeaning) (sheet : SheetParts) (t : ℕ) (run run' : Run) (left left' : List ℕ)
+    (queue queue' : BTreeMap Rank ℕ) (x x' : Option ℕ) (total total' : ℕ) (lists lists' : List (Vec ℕ)) (sums sums' : List ℕ)
+    (y : Tick) (n : ℕ) →
     IsKeptBy p m sheet t run left queue x total lists sums
-    → IsKeptAt p m sheet (suc t) (with_tick run y) left' queue' x' → run' ≡ with_tick run y → total' ≡ total → lists' ≡ lists → n ≡ get_or sums t 0 + cond {A = ℕ} (is_on y) 1 0 → sums' ≡ sums ++ n ∷ [] → IsKeptBy p m sheet (suc t) run' left' queue' x' total' lists' sums'
+    → IsKeptAt p m sheet (suc t) (with_tick run y) left' queue' x' → run' ≡ with_tick run y → total' ≡ total
+    → lists' ≡ lists → n ≡ get_or sums t 0 + cond {A = ℕ} (is_on y) 1 0 → sums' ≡ sums ++ n ∷ [] → IsKeptBy p m sheet (suc t) run' left' queue' x' total' lists' sums'
 unfolding with_tick
 kept_then p m sheet t run run' left left' queue queue' x x' total total' lists lists' sums sums' y n kept then is_run is_total is_lists is_n is_sums =
     let done : IsKeptBy p m sheet (suc t) (with_tick run y) left' queue' x' total lists (sums ++ n ∷ []) = record {

@@ -61,8 +61,7 @@ has_arrivals_more n run lists j longer has b early e = record {
 
 pub has_arrivals_tick : (n : ℕ) (run : Run) (lists : List (Vec ℕ)) (x : Tick) → HasArrivals n run lists → HasArrivals n (with_tick run x) lists
 has_arrivals_tick n run lists x has =
-    record
-    { tasks = has.tasks; each = λ o d h. record { ascending = (has.each o d h).ascending; same = lists_tick run o (get_or lists o d).items x (has.each o d h).same } }
+    record { tasks = has.tasks; each = λ o d h. record { ascending = (has.each o d h).ascending; same = lists_tick run o (get_or lists o d).items x (has.each o d h).same } }
 
 pub has_no_arrivals : (n : ℕ) (lists : List (Vec ℕ)) → length lists ≡ n →
     ((o : ℕ) (d : Vec ℕ) → o < n → (get_or lists o d).items ≡ []) →

@@ -63,7 +63,18 @@ returns-clause-exact c =
     (cert_is c.args.seed c.args.tasks c.in_ok-sheet.sheet c.in-Ok.cert c.in_ok-sheet.ensures c.in-Ok.ensures.exact)
     (run_is c.args.seed c.args.tasks c.in_ok-sheet.sheet c.in-Ok-simulate.run' c.in_ok-sheet.ensures law c.in-Ok-simulate.ensures.exact)
     seen
-    (rw (c.count_points.ensures, c.greatest_bound.ensures, c.len.ensures, c.count_done.ensures, c.worst_of.ensures, c.as_slice.ensures, c.as_slice-2.ensures, c.as_slice-3.ensures, c.as_slice-4.ensures) refl)
+    (rw (
+      c.count_points.ensures,
+      c.greatest_bound.ensures,
+      c.len.ensures,
+      c.count_done.ensures,
+      c.worst_of.ensures,
+      c.as_slice.ensures,
+      c.as_slice-2.ensures,
+      c.as_slice-3.ensures,
+      c.as_slice-4.ensures,
+    )
+    refl)
 
 pub returns-clause-sound : goal.returns-clause-sound
 returns-clause-sound c =

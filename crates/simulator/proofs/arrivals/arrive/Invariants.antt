@@ -5,6 +5,7 @@ use Rattle.simulator.proofs.arrivals.arrive.Given as goal
 
 abbrev pub invariant-loop-o : goal.invariant-loop-o
 invariant-loop-o g l = record {
-  moment : moment_of l.simulation ≡ arrive_below (world_by g.P.Policy.meaning g.M.Preemption.cuts l.sheet l.mode) l.t l.o (moment_after (world_by g.P.Policy.meaning g.M.Preemption.cuts l.sheet l.mode) l.t);
+  moment : moment_of l.simulation ≡ arrive_below (world_by g.P.Policy.meaning g.M.Preemption.cuts l.sheet l.mode) l.t l.o
+      (moment_after (world_by g.P.Policy.meaning g.M.Preemption.cuts l.sheet l.mode) l.t);
   kept : IsKept g.P.Policy.meaning g.M.Preemption.cuts l.sheet l.t l.simulation;
 }

@@ -18,7 +18,8 @@ allowance-room-requires-clause-past g c =
     (λ o b. g.met.M.Preemption.lawful (task_at w.sheet o) (valid.each o b) (c.requires.served o b))
     (λ o b. g.met.M.Tabled.tabled (task_at w.sheet o) (c.requires.served o b)) in
     list_past w laws c.args.o c.args.t (run_of m) c.deref.result.now c.task.result.now c.requires.task (ap (λ (v : Moment). v.run) c.requires.stage) c.task.ensures.task
-    (list_is c.args.o (length w.sheet.tasks) (run_of m) m.arrivals.items c.deref.result.now c.index.result.now c.requires.kept.arrivals c.requires.task c.index.ensures c.deref.ensures.value)
+    (list_is c.args.o (length w.sheet.tasks) (run_of m) m.arrivals.items c.deref.result.now c.index.result.now
+    c.requires.kept.arrivals c.requires.task c.index.ensures c.deref.ensures.value)
 
 pub draw_count-n-requires : goal.draw_count-n-requires
 draw_count-n-requires g c =

@@ -51,8 +51,10 @@ returns g c =
       prompt = subst IsPrompt (sym here) (λ k b. (kept.known k b).prompt);
       full =
           λ dense. subst (IsDense sheet n) (sym is)
-          (subst (λ (mode : Mode). IsDense sheet n (simulated_run (world_of w.policy w.cuts sbf sheet mode) n)) (sym dense) (c.dense_is_full.ensures c.args.supply.now c.known.ensures sheet valid n));
+          (subst (λ (mode : Mode). IsDense sheet n (simulated_run (world_of w.policy w.cuts sbf sheet mode) n)) (sym dense)
+          (c.dense_is_full.ensures c.args.supply.now c.known.ensures sheet valid n));
       within =
           subst IsWithinLimits (sym here)
-          (kept_within w.policy w.cuts w.sheet c.loop-t.t (run_of m) m.left.items m.queue m.inside kept valid (λ o b. g.met.M.Tabled.tabled (task_at w.sheet o) (c.requires.served o b)) (omega arith));
+          (kept_within w.policy w.cuts w.sheet c.loop-t.t (run_of m) m.left.items m.queue m.inside kept valid
+          (λ o b. g.met.M.Tabled.tabled (task_at w.sheet o) (c.requires.served o b)) (omega arith));
     }

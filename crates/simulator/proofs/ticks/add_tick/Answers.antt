@@ -52,7 +52,9 @@ returns-clause-moment g c =
     allowed.0 allowed.1 in
     ticked w c.args.t (moment_of m) c.off_allowed-may.result c.draw_off-off.result c.pick-tick.result _
     c.advance.new.simulation.words may c.draw_off-off.ensures.off (c.pick-tick.ensures.tick w c.args.t c.requires.kept)
-    (with_tick_is (run_of m) c.advance.new.simulation.jobs.items c.push-2.new.self.items c.pick-tick.result (ap (λ (v : Vec Job). v.items) rest.jobs) (c.in_ok-push-2.ensures.items ∙ ap (λ (v : Vec Tick). v.items ++ c.pick-tick.result ∷ []) rest.ticks))
+    (with_tick_is (run_of m) c.advance.new.simulation.jobs.items c.push-2.new.self.items c.pick-tick.result
+    (ap (λ (v : Vec Job). v.items) rest.jobs)
+    (c.in_ok-push-2.ensures.items ∙ ap (λ (v : Vec Tick). v.items ++ c.pick-tick.result ∷ []) rest.ticks))
     (rest.words ∙ c.draw_off-off.ensures.state)
 
 pub returns-clause-kept : goal.returns-clause-kept
@@ -70,7 +72,8 @@ returns-clause-kept g c =
     kept_then g.P.Policy.meaning g.M.Preemption.cuts c.args.sheet.now c.args.t (run_of m) _ m.left.items new.left.items m.queue
     new.queue m.inside new.inside m.segments new.segments m.arrivals.items new.arrivals.items m.counts.items c.push.new.self.items
     y (c.index.result.now + c.count_on.result) c.requires.kept after
-    (with_tick_is (run_of m) new.jobs.items c.push-2.new.self.items y (ap (λ (v : Vec Job). v.items) rest.jobs) (c.in_ok-push-2.ensures.items ∙ ap (λ (v : Vec Tick). v.items ++ y ∷ []) rest.ticks))
+    (with_tick_is (run_of m) new.jobs.items c.push-2.new.self.items y (ap (λ (v : Vec Job). v.items) rest.jobs)
+    (c.in_ok-push-2.ensures.items ∙ ap (λ (v : Vec Tick). v.items ++ y ∷ []) rest.ticks))
     rest.segments (ap (λ (v : Vec (Vec ℕ)). v.items) rest.arrivals)
     (ap (λ (n : ℕ). n + c.count_on.result) last ∙ ap (λ (n : ℕ). get_or m.counts.items c.args.t 0 + n) c.count_on.ensures)
     (c.in_ok-push.ensures.items ∙ ap (λ (v : Vec ℕ). v.items ++ (c.index.result.now + c.count_on.result) ∷ []) rest.counts)

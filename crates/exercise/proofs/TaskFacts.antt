@@ -8,7 +8,7 @@ use Rattle.std.proofs.lemmas.List.Folds.{list_all-append}
 use Rattle.std.proofs.lemmas.Nat.{mod_below}
 use Rattle.lists.specs.Ranges.{is_between}
 use Rattle.curve.specs.Validity.{IsCurve}
-use Rattle.task_sheet.specs.Rules.{is_name, is_positive, are_positive}
+use Rattle.task_sheet.specs.Rules.{is_name, is_in_range, are_in_range}
 use Rattle.task_sheet.specs.Limits.{no_point}
 use Rattle.task_sheet.specs.Sheets.{CutFits, IsTask}
 use Rattle.task_sheet.proofs.RuleFacts.{positive_from}
@@ -40,12 +40,12 @@ curve_valid period l h = record {
   within = l;
 }
 
-halves_fit : (cost : ℕ) → 1 ≤ cost → cost ≤ 1000000000 → (are_positive 1000 (halves cost) ≡ true) × (sum (halves cost) ≡ cost)
+halves_fit : (cost : ℕ) → 1 ≤ cost → cost ≤ 1000000000 → (are_in_range 1000 (halves cost) ≡ true) × (sum (halves cost) ≡ cost)
 halves_fit cost l h = elim (cases_eq cost 1) [
   | inl e ↦ rw (eq-eqb cost 1 e) (refl, sym e)
   | inr ne ↦
-      let first : is_positive (cost / 2) ≡ true = positive_from (cost / 2) (omega arith) (omega arith) in
-      let second : is_positive (cost - cost / 2) ≡ true = positive_from (cost - cost / 2) (omega arith) (omega arith) in
+      let first : is_in_range (cost / 2) ≡ true = positive_from (cost / 2) (omega arith) (omega arith) in
+      let second : is_in_range (cost - cost / 2) ≡ true = positive_from (cost - cost / 2) (omega arith) (omega arith) in
       rw (ne_eqb cost 1 ne) (and_from _ _ refl (and_from _ _ first (and_from _ _ second refl)), omega arith)
 ]
 

@@ -18,7 +18,7 @@ use Rattle.task_sheet.specs.declared.tasks.Cut.TheVariants.{Full, Never, Fixed, 
 use Rattle.task_sheet.specs.declared.tasks.Task.{Task}
 use Rattle.task_sheet.specs.declared.refusal.Place.{Place}
 use Rattle.task_sheet.specs.SheetParts.{SheetParts}
-use Rattle.task_sheet.specs.Rules.{is_positive, supply_rule, cut_rule, task_rule, tasks_rule}
+use Rattle.task_sheet.specs.Rules.{is_in_range, supply_rule, cut_rule, task_rule, tasks_rule}
 use Rattle.task_sheet.specs.Sheets.{parts_of, no_task, IsValidSheet}
 use Rattle.task_sheet.proofs.RuleFacts.{both_hold, holds_means, positive_from, positive_high, cut_passes, promise_passes, task_means, tasks_from_valid}
 use Rattle.sheet_text.specs.Documents.{number_of, all_of, count_of}
@@ -93,7 +93,7 @@ promise_again : (horizon : ℕ) (times : List ℕ) → supply_rule (Promised hor
 unfolding promised_rule
 promise_again horizon times h =
     let first = both_hold _ _ _ (both_hold _ _ _ h).0 in
-    let positive : is_positive horizon ≡ true = holds_means _ _ first.0 in
+    let positive : is_in_range horizon ≡ true = holds_means _ _ first.0 in
     rw (positive, numbers_again times, h) refl
 
 tables : (ts : List Task) → are_tables (items_of (map task_data ts)) ≡ true

@@ -4,7 +4,7 @@ ghost use Rattle.std.specs.List.{list_all};
 ghost use Rattle.toml.specs.Data.{table, member, no_members};
 ghost use Rattle.toml.specs.View.{view, table_view};
 ghost use Rattle.curve.specs.Validity.{is_step};
-ghost use Rattle.task_sheet.specs.Rules.{are_positive};
+ghost use Rattle.task_sheet.specs.Rules.{are_in_range};
 ghost use Rattle.task_sheet.specs.Sheets.{IsPromise, IsTask, IsValidSheet};
 ghost use Rattle.sheet_text.specs.Printed.{put as put_of, array_data, number_data, step_data, curve_data, cut_data, task_data, policy_word as policy_word_of, promise_data, put_promise as put_promise_of, sheet_data};
 ghost use Rattle.sheet_text.specs.SheetRows.{sheet_of_text};
@@ -29,7 +29,7 @@ fn number_value(n: u64) -> Value
 }
 
 fn numbers_value(alloc: Global, numbers: &[u64]) -> Result<Value, AllocError>
-    requires { are_positive 1000 numbers.now ≡ true }
+    requires { are_in_range 1000 numbers.now ≡ true }
     ensures { IfOk result (λ v. view v ≡ array_data number_data numbers.now) }
 {
     let mut values = Vec::new(alloc);
@@ -126,7 +126,7 @@ fn tasks_value(alloc: Global, sheet: &Sheet) -> Result<Value, AllocError>
 
 fn promise_value(alloc: Global, horizon: u64, times: &[u64]) -> Result<Value, AllocError>
     requires horizon { horizon < 2 ^ 63 }
-    requires times { are_positive 1000 times.now ≡ true }
+    requires times { are_in_range 1000 times.now ≡ true }
     ensures { IfOk result (λ v. view v ≡ promise_data horizon times.now) }
 {
     let mut table = Table::new(alloc);

@@ -5,7 +5,7 @@ use Rattle.std.proofs.lemmas.Bool.{cases_Bool, and_parts, leb-true}
 use Rattle.std.proofs.lemmas.List.Folds.{list_all_at}
 use Rattle.lists.specs.Ranges.{is_between}
 use Rattle.task_sheet.specs.declared.tasks.Cut.TheVariants.{Fixed}
-use Rattle.task_sheet.specs.Rules.{is_positive}
+use Rattle.task_sheet.specs.Rules.{is_in_range}
 use Rattle.task_sheet.specs.Sheets.{CutFits}
 use Rattle.simulated_run.specs.declared.mode.Mode.{Mode}
 use Rattle.simulated_run.specs.declared.mode.Mode.TheVariants.{Dense, Seed}
@@ -27,17 +27,17 @@ after_next n i state h =
     let e : n - i ≡ suc (n - (i + 1)) = omega arith in
     ap (λ (k : ℕ). after k state) (sym e)
 
-pub positive_at : (gs : List ℕ) (i d : ℕ) → list_all is_positive gs ≡ true → i < length gs → (1 ≤ get_or gs i d) × (get_or gs i d ≤ 1000000000)
-positive_at gs i d h b = elim (cases_Bool (is_positive (get_or gs i d))) [
+pub positive_at : (gs : List ℕ) (i d : ℕ) → list_all is_in_range gs ≡ true → i < length gs → (1 ≤ get_or gs i d) × (get_or gs i d ≤ 1000000000)
+positive_at gs i d h b = elim (cases_Bool (is_in_range (get_or gs i d))) [
   | inl t ↦
       let p = and_parts (leb 1 (get_or gs i d)) (leb (get_or gs i d) 1000000000) t in
       (leb-true 1 (get_or gs i d) p.0, leb-true (get_or gs i d) 1000000000 p.1)
-  | inr f ↦ absurd (let e = list_all_at is_positive gs i d b f in cc)
+  | inr f ↦ absurd (let e = list_all_at is_in_range gs i d b f in cc)
 ]
 
 -- the task's segments, of a valid cut
-pub positive_of : (most : ℕ) (gs : List ℕ) → CutFits most (Fixed gs) → list_all is_positive gs ≡ true
-positive_of most gs f = (and_parts (is_between 1 1000 (length gs)) (list_all is_positive gs) f.0).1
+pub positive_of : (most : ℕ) (gs : List ℕ) → CutFits most (Fixed gs) → list_all is_in_range gs ≡ true
+positive_of most gs f = (and_parts (is_between 1 1000 (length gs)) (list_all is_in_range gs) f.0).1
 
 pub fixed_length : (mode : Mode) (gs : List ℕ) (cost state : ℕ) → length (segments_by mode (Fixed gs) cost state) ≡ length gs
 fixed_length Dense gs cost state = refl

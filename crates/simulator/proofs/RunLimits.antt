@@ -11,7 +11,7 @@ use Rattle.task_sheet.specs.declared.tasks.Job.{Job}
 use Rattle.policy.specs.PolicyMeaning.{PolicyMeaning}
 use Rattle.preemption.specs.CutMeaning.{CutMeaning}
 use Rattle.preemption.specs.CutLaws.{IsTabledCut}
-use Rattle.preemption.specs.Cuts.{each_within, all_within, has_none, segments_fit}
+use Rattle.preemption.specs.Cuts.{each_within, are_lengths_within, has_none, segments_fit}
 use Rattle.preemption.specs.Segments.{sum_more}
 use Rattle.run_model.specs.declared.run.Run.{Run}
 use Rattle.run_model.specs.declared.run.Tick.{Tick}
@@ -41,7 +41,7 @@ cut_segments : (cut : Cut) (j : Job) → segments_fit cut j ≡ true → j.cost 
 cut_segments Full j h l = no_segments j.segs h
 cut_segments Never j h l = no_segments j.segs h
 cut_segments (Fixed segments) j h l = small_segments j.segs j.cost (eqb-true _ _ (and_parts (each_within j.segs segments) (sum j.segs == j.cost) h).1) l
-cut_segments (Floating bound) j h l = small_segments j.segs j.cost (eqb-true _ _ (and_parts (all_within bound j.segs) (sum j.segs == j.cost) h).1) l
+cut_segments (Floating bound) j h l = small_segments j.segs j.cost (eqb-true _ _ (and_parts (are_lengths_within bound j.segs) (sum j.segs == j.cost) h).1) l
 
 tick_of : (n : ℕ) (x : Tick) → ((k : ℕ) → x ≡ Runs k → k < n) → IsTickOf n x
 tick_of n Off h = tt

@@ -16,7 +16,7 @@ use Rattle.task_sheet.specs.declared.tasks.Task.{Task}
 use Rattle.task_sheet.specs.declared.refusal.SheetRefusal.{SheetRefusal}
 use Rattle.task_sheet.specs.SheetParts.{SheetParts}
 use Rattle.task_sheet.specs.Refusing.{◌>>=◌, holds}
-use Rattle.task_sheet.specs.Rules.{is_positive, is_name, is_priority_point, most_jitter, supply_rule, cut_rule, task_rule, tasks_rule, check_of}
+use Rattle.task_sheet.specs.Rules.{is_in_range, is_name, is_priority_point, most_jitter, supply_rule, cut_rule, task_rule, tasks_rule, check_of}
 use Rattle.task_sheet.specs.Sheets.{parts_of, no_task, CutFits, IsPromise, IsTask, IsValidSheet}
 
 pub holds_means : (b : Bool) (e : SheetRefusal) → holds b e ≡ Ok tt → b ≡ true
@@ -30,17 +30,17 @@ both_hold (Err e) f y h = absurd (cc)
 pub holds_then : {B : Type 0} (b : Bool) (e : SheetRefusal) (f : Unit {0} → Result B SheetRefusal) → b ≡ true → (holds b e >>= f) ≡ f tt
 holds_then b e f h = rw h refl
 
-pub positive_low : (n : ℕ) → is_positive n ≡ true → 1 ≤ n
+pub positive_low : (n : ℕ) → is_in_range n ≡ true → 1 ≤ n
 positive_low n h = leb-true 1 n (and_parts _ _ h).0
 
-pub positive_high : (n : ℕ) → is_positive n ≡ true → n ≤ 1000000000
+pub positive_high : (n : ℕ) → is_in_range n ≡ true → n ≤ 1000000000
 positive_high n h = leb-true n 1000000000 (and_parts _ _ h).1
 
-pub positive_from : (n : ℕ) → 1 ≤ n → n ≤ 1000000000 → is_positive n ≡ true
+pub positive_from : (n : ℕ) → 1 ≤ n → n ≤ 1000000000 → is_in_range n ≡ true
 positive_from n h k = and_from _ _ (le-leb 1 n h) (le-leb n 1000000000 k)
 
 -- numbers in range have a sum
-pub sum_positive : (xs : List ℕ) → list_all is_positive xs ≡ true → sum xs ≤ length xs * 1000000000
+pub sum_positive : (xs : List ℕ) → list_all is_in_range xs ≡ true → sum xs ≤ length xs * 1000000000
 sum_positive [] h = omega arith
 sum_positive (x ∷ xs) h =
     let parts = and_parts _ _ h in
@@ -78,8 +78,8 @@ promise_passes (Promised horizon times) h = rw (positive_from horizon h.0 h.1, h
 pub record TaskPasses (names : List (List ℕ)) (t : Task) : Type 0 where
   pub name : is_name t.name ≡ true
   pub fresh : list_any (bytes_eq t.name) names ≡ false
-  pub cost : is_positive t.cost ≡ true
-  pub deadline : is_positive t.deadline ≡ true
+  pub cost : is_in_range t.cost ≡ true
+  pub deadline : is_in_range t.deadline ≡ true
   pub priority : t.priority ≤ 1000000000
   pub jitter : t.jitter ≤ most_jitter
   pub point : is_priority_point t.point ≡ true

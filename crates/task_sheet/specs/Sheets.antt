@@ -8,7 +8,7 @@ use Rattle.task_sheet.specs.declared.tasks.Cut.TheVariants.{Full, Never, Fixed, 
 use Rattle.task_sheet.specs.declared.tasks.Task.{Task}
 use Rattle.task_sheet.specs.declared.tasks.Job.{Job}
 use Rattle.task_sheet.specs.SheetParts.{SheetParts}
-use Rattle.task_sheet.specs.Rules.{is_name, is_priority_point, most_jitter, are_positive, are_times}
+use Rattle.task_sheet.specs.Rules.{is_name, is_priority_point, most_jitter, are_in_range, are_times}
 
 abbrev pub parts_of : PolicyKind → SupplySpec → List Task → SheetParts
 parts_of p s ts = record { policy = p; supply = s; tasks = ts }
@@ -24,13 +24,13 @@ task_at sheet i = slice_index_or sheet.tasks i no_task
 abbrev pub CutFits : ℕ → Cut → Type 0
 CutFits cost Full = Unit {0}
 CutFits cost Never = Unit {0}
-CutFits cost (Fixed segments) = (are_positive 1000 segments ≡ true) × (sum segments ≡ cost)
+CutFits cost (Fixed segments) = (are_in_range 1000 segments ≡ true) × (sum segments ≡ cost)
 CutFits cost (Floating longest) = (1 ≤ longest) × (longest ≤ cost)
 
 -- a promise of supply
 abbrev pub IsPromise : SupplySpec → Type 0
 IsPromise Whole = Unit {0}
-IsPromise (Promised horizon times) = (1 ≤ horizon) × (horizon ≤ 1000000000) × (are_positive 1000 times ≡ true) × (are_times horizon times ≡ true)
+IsPromise (Promised horizon times) = (1 ≤ horizon) × (horizon ≤ 1000000000) × (are_in_range 1000 times ≡ true) × (are_times horizon times ≡ true)
 
 -- a valid task
 pub record IsTask (t : Task) : Type 0 where

@@ -3,3 +3,4 @@ pub mod Limits
 pub mod Refusing
 pub mod Rules
 pub mod Sheets
+pub mod Words

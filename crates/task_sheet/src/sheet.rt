@@ -1,5 +1,5 @@
 //! A valid sheet.
-ghost use Rattle.std.specs.Prelude.{◌≡◌, ◌<◌, ◌↔◌, length, IfOk, IsOk};
+ghost use Rattle.std.specs.Prelude.{◌≡◌, ◌<◌, ◌≤◌, ◌↔◌, length, IfOk, IsOk};
 ghost use Rattle.task_sheet.specs.Rules.{check_of};
 ghost use Rattle.task_sheet.specs.Sheets.{parts_of, task_at, IsValidSheet};
 
@@ -86,9 +86,11 @@ impl Sheet {
     }
 
     /// The task with this number, counted from 0.
+    #[tactic(auto, using(crate::specs::Limits::jitter_high))]
     pub fn task(&self, i: u32) -> &Task
         requires { i < length self.now.tasks }
         ensures task { result.now ≡ task_at self.now i }
+        ensures jitter { result.now.jitter ≤ 1000000000 }
         ensures valid { IsValidSheet self.now }
     {
         &self.tasks.as_slice()[i as usize]

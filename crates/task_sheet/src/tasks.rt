@@ -1,4 +1,7 @@
 //! What a sheet says of its tasks, its policy and its supply.
+ghost use Rattle.std.specs.Prelude.{◌≡◌};
+ghost use Rattle.task_sheet.specs.Words.{policy_word};
+
 use curve::Prefix;
 use lists::{Items, Text};
 
@@ -11,6 +14,19 @@ pub enum PolicyKind {
     Edf,
     /// First in, first out.
     Fifo,
+}
+
+impl PolicyKind {
+    /// The word that names the policy in texts.
+    pub fn word(self) -> &'static str
+        ensures { result.now ≡ policy_word self }
+    {
+        match self {
+            PolicyKind::Fp => "fp",
+            PolicyKind::Edf => "edf",
+            PolicyKind::Fifo => "fifo",
+        }
+    }
 }
 
 /// What is promised of the processor.

@@ -64,7 +64,13 @@ one_more : (seed n k : ℕ) → k < 64 → HasEntries seed n k → HasWindow see
 one_more seed n k b before own =
     let sheet : SheetParts = generated_sheet seed n in
     let e : Entry = best_of_window edf_meaning per_task_meaning (λ d. d) sheet k own.window in
-    let points : length e.points ≤ 6400 = omega (arith, entry_points edf_meaning per_task_meaning (λ d. d) sheet k own.window, points_most edf_meaning per_task_meaning (λ d. d) sheet k own.window, own.small) in
+    let points : length e.points ≤ 6400 =
+    omega (
+      arith,
+      entry_points edf_meaning per_task_meaning (λ d. d) sheet k own.window,
+      points_most edf_meaning per_task_meaning (λ d. d) sheet k own.window,
+      own.small,
+    ) in
     record {
       entries = before.entries ++ e ∷ [];
       listed = next_entry edf_meaning per_task_meaning (λ d. d) sheet 1000000 k before.entries before.listed own.window (omega (arith, own.small)) own.least
@@ -75,7 +81,7 @@ one_more seed n k b before own =
 
 pub has_entries : (seed n k : ℕ) → 1 ≤ n → n ≤ 64 → k ≤ n → HasEntries seed n k
 has_entries seed n zero some few b = record { entries = []; listed = none_yet seed n; count = refl; few = omega arith }
-has_entries seed n (suc k) some few b = one_more seed n k (omega arith) (has_entries seed n k some few (omega arith)) (has_window seed n k some few)
+has_entries seed n (suc k) some few b = one_more seed n k (omega arith) (has_entries seed n k some few (omega arith)) (has_window seed n k (omega arith) few)
 
 -- the best certificate
 pub record HasBest (seed n : ℕ) : Type 0 where

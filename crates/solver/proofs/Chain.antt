@@ -12,7 +12,7 @@ use Rattle.search_space.proofs.PointFacts.{same_before}
 use Rattle.certificate.specs.declared.cert.Entry.{Entry}
 use Rattle.conditions.specs.Meets.{TaskMeets}
 use Rattle.solver.specs.Points.{passing, points_below}
-use Rattle.solver.specs.Best.{IsBestEntry, MeetsEach}
+use Rattle.solver.specs.Best.{IsBestEntry}
 use Rattle.solver.proofs.Listing.{point_zero}
 
 module _ (p : PolicyMeaning) (m : CutMeaning) (sbf : ℕ → ℕ) (sheet : SheetParts) (i window bound : ℕ) where
@@ -67,14 +67,15 @@ chain_first p m sbf sheet i (suc n) bound (q ∷ qs) one offsets meet =
     )
 
 module _ (p : PolicyMeaning) (m : CutMeaning) (sbf : ℕ → ℕ) (sheet : SheetParts) (i : ℕ) where
-  holds_each : (bound window : ℕ) (qs : List (ℕ × ℕ)) → AllByRecursion (λ q. IsLeast (MeetsEnd p m sbf sheet i q.0) q.1) qs → MeetsEach p m sbf sheet i qs bound → AllByRecursion (MeetsBoth p m sbf sheet i window bound) qs
+  holds_each : (bound window : ℕ) (qs : List (ℕ × ℕ)) → AllByRecursion (λ q. IsLeast (MeetsEnd p m sbf sheet i q.0) q.1) qs → AllByRecursion (λ q. MeetsBound p m sbf sheet i q.0 q.1 bound) qs → AllByRecursion (MeetsBoth p m sbf sheet i window bound) qs
   holds_each bound window [] ends meet = ends
   holds_each bound window (q ∷ qs) ends meet = ((ends.0.holds, meet.0), holds_each bound window qs ends.1 meet.1)
 
   -- a best entry meets its conditions
   pub entry_meets : (e : Entry) → IsBestEntry p m sbf sheet i e → TaskMeets p m sbf sheet false i e
   entry_meets e best = record {
+    covers = best.bound.holds.covers;
     window = best.window.holds;
     in_time = tt;
-    points = chain_first p m sbf sheet i e.window e.bound e.points best.window.holds.positive best.offsets (holds_each e.bound e.window e.points best.ends best.bound.holds);
+    points = chain_first p m sbf sheet i e.window e.bound e.points best.window.holds.positive best.offsets (holds_each e.bound e.window e.points best.ends best.bound.holds.each);
   }

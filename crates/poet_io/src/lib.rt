@@ -11,6 +11,7 @@ mod pushing;
 mod shelf;
 mod sink;
 mod std_sink;
+mod text_refusal;
 
 pub use file_shelf::FileShelf;
 pub use mem_shelf::MemShelf;
@@ -20,3 +21,4 @@ pub use pushing::{push_field, push_number};
 pub use shelf::{ReadRefusal, Shelf, ShelfFault, read_whole};
 pub use sink::{Sink, SinkFault, write_all, write_parts};
 pub use std_sink::StdSink;
+pub use text_refusal::TextRefusal;

@@ -11,6 +11,8 @@ use Rattle.preemption.specs.CutMeaning.{CutMeaning}
 use Rattle.demand.specs.Meeting.{IsWindow, MeetsEnd}
 use Rattle.search_space.specs.Points.{is_point}
 use Rattle.certificate.specs.declared.cert.Entry.{Entry}
+use Rattle.certificate.specs.declared.cert.Point.{Point}
+use Rattle.certificate.specs.Text.{point_of}
 use Rattle.solver.specs.declared.analysis.AnalyseRefusal.{AnalyseRefusal}
 use Rattle.solver.specs.declared.analysis.AnalyseRefusal.TheVariants.{NoBound, Points, Memory}
 use Rattle.solver.specs.Laws.{Laws}
@@ -36,11 +38,11 @@ points_lie_below p sheet i window = passing_below (is_point p sheet i) window wi
 
 -- offsets with their ends: the offsets are kept
 module _ (end : ℕ → ℕ) where
-  offsets_stay : (offsets : List ℕ) → map (λ (q : ℕ × ℕ). q.0) (map (λ a. (a, end a)) offsets) ≡ offsets
+  offsets_stay : (offsets : List ℕ) → map (λ (q : Point). q.offset) (map (λ a. point_of a (end a)) offsets) ≡ offsets
   offsets_stay [] = refl
   offsets_stay (a ∷ offsets) = ap (λ rest. a ∷ rest) (offsets_stay offsets)
 
-  each_offset : (P : ℕ → ℕ → Type 0) (limit : ℕ) → ((a : ℕ) → a < limit → P a (end a)) → (offsets : List ℕ) → AllByRecursion (λ a. a < limit) offsets → AllByRecursion (λ (q : ℕ × ℕ). P q.0 q.1) (map (λ a. (a, end a)) offsets)
+  each_offset : (P : ℕ → ℕ → Type 0) (limit : ℕ) → ((a : ℕ) → a < limit → P a (end a)) → (offsets : List ℕ) → AllByRecursion (λ a. a < limit) offsets → AllByRecursion (λ (q : Point). P q.offset q.end) (map (λ a. point_of a (end a)) offsets)
   each_offset P limit f [] below = tt
   each_offset P limit f (a ∷ offsets) below = (f a below.0, each_offset P limit f offsets below.1)
 
@@ -53,10 +55,10 @@ module _ (p : PolicyMeaning) (m : CutMeaning) (sbf : ℕ → ℕ) (sheet : Sheet
       let limit = window + (task_at sheet i).jitter in
       let end = λ (a : ℕ). or_zero (least_to (meets_end p m sbf sheet i a) window) in
       let lie = points_lie_below p sheet i window in
-      let points = map (λ a. (a, end a)) (points_below p sheet i window) in
-      let ends : AllByRecursion (λ q. IsLeast (MeetsEnd p m sbf sheet i q.0) q.1) points =
+      let points = map (λ a. point_of a (end a)) (points_below p sheet i window) in
+      let ends : AllByRecursion (λ q. IsLeast (MeetsEnd p m sbf sheet i q.offset) q.end) points =
       each_offset end (λ a x. IsLeast (MeetsEnd p m sbf sheet i a) x) window (λ a lt. found_least (MeetsEnd p m sbf sheet i a) window window _ (end_found p m sbf sheet i a window) up_to (window_ends p m sbf sheet laws i in_range window a least.holds lt)) (points_below p sheet i window) lie in
-      let below : AllByRecursion (λ q. q.0 < window) points = each_offset end (λ a x. a < window) window (λ a lt. lt) (points_below p sheet i window) lie in
+      let below : AllByRecursion (λ q. q.offset < window) points = each_offset end (λ a x. a < window) window (λ a lt. lt) (points_below p sheet i window) lie in
       let each : MeetsEach p m sbf sheet i points limit = window_each p m sbf sheet laws i in_range window points least.holds ends below in
       record {
         window = least;
@@ -90,7 +92,7 @@ module _ (p : PolicyMeaning) (m : CutMeaning) (sbf : ℕ → ℕ) (sheet : Sheet
         entry = e;
         best = best;
         within = within;
-        few = omega (arith, few, ap length best.offsets, length-map e.points (λ (q : ℕ × ℕ). q.0));
+        few = omega (arith, few, ap length best.offsets, length-map e.points (λ (q : Point). q.offset));
         late = leb-false _ _ f;
       })
     ]

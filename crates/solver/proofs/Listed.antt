@@ -7,6 +7,7 @@ use Rattle.task_sheet.specs.SheetParts.{SheetParts}
 use Rattle.policy.specs.PolicyMeaning.{PolicyMeaning}
 use Rattle.preemption.specs.CutMeaning.{CutMeaning}
 use Rattle.certificate.specs.declared.cert.Entry.{Entry}
+use Rattle.certificate.specs.declared.cert.Point.{Point}
 use Rattle.solver.specs.Points.{points_below}
 use Rattle.solver.specs.Best.{IsBestUpTo, nth_entry, AreBest, points_to, HaveEntries, IsBest}
 
@@ -44,7 +45,7 @@ module _ (p : PolicyMeaning) (m : CutMeaning) (sbf : ℕ → ℕ) (sheet : Sheet
   pub entries_more : (i room count : ℕ) (entries : List Entry) (e : Entry) → EntriesSoFar p m sbf sheet horizon i room entries → IsBestUpTo p m sbf sheet horizon i e →
       count ≡ length (points_below p sheet i e.window) → count ≤ room → EntriesSoFar p m sbf sheet horizon (i + 1) (room - count) (entries ++ e ∷ [])
   entries_more i room count entries e so_far best counted le =
-      let own : length e.points ≡ count = omega (arith, counted, ap length best.best.offsets, length-map e.points (λ (q : ℕ × ℕ). q.0)) in
+      let own : length e.points ≡ count = omega (arith, counted, ap length best.best.offsets, length-map e.points (λ (q : Point). q.offset)) in
       record {
         count = omega (arith, length-append entries (e ∷ []), so_far.count);
         best = λ k l. elim (cases_lt k (length entries)) [

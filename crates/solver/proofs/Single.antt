@@ -8,6 +8,8 @@ use Rattle.task_sheet.specs.SheetParts.{SheetParts}
 use Rattle.policy.specs.PolicyMeaning.{PolicyMeaning}
 use Rattle.preemption.specs.CutMeaning.{CutMeaning}
 use Rattle.certificate.specs.declared.cert.Entry.{Entry}
+use Rattle.certificate.specs.declared.cert.Point.{Point}
+use Rattle.certificate.specs.Text.{point_of}
 use Rattle.certificate.specs.declared.cert.Cert.{Cert}
 use Rattle.demand.specs.Meeting.{MeetsEnd}
 use Rattle.conditions.specs.Conditions.{no_entry}
@@ -20,7 +22,7 @@ use Rattle.solver.specs.Best.{IsBestEntry, MeetsEach, nth_entry, AreBest, points
 use Rattle.solver.specs.Answer.{IsAnswer}
 use Rattle.solver.proofs.Unique.{same_least}
 
-abbrev entry_of : ℕ → ℕ → List (ℕ × ℕ) → Entry
+abbrev entry_of : ℕ → ℕ → List Point → Entry
 entry_of window bound points = record { window = window; bound = bound; points = points }
 
 abbrev refused_by : ℕ → Part → Result Cert AnalyseRefusal
@@ -29,25 +31,22 @@ refused_by i part = Err (NoBound i part)
 abbrev cert_of : List Entry → Cert
 cert_of entries = record { entries = entries }
 
-entry_same : (w v b c : ℕ) (qs rs : List (ℕ × ℕ)) → w ≡ v → b ≡ c → qs ≡ rs → entry_of w b qs ≡ entry_of v c rs
+entry_same : (w v b c : ℕ) (qs rs : List Point) → w ≡ v → b ≡ c → qs ≡ rs → entry_of w b qs ≡ entry_of v c rs
 entry_same w v b c qs rs e f g = rw (e, f, g) refl
 
-abbrev pair_of : ℕ → ℕ → ℕ × ℕ
-pair_of a x = (a, x)
-
-pair_same : (a b x y : ℕ) → a ≡ b → x ≡ y → pair_of a x ≡ pair_of b y
-pair_same a b x y e f = rw (e, f) refl
+point_same : (a b x y : ℕ) → a ≡ b → x ≡ y → point_of a x ≡ point_of b y
+point_same a b x y e f = rw (e, f) refl
 
 module _ (p : PolicyMeaning) (m : CutMeaning) (sbf : ℕ → ℕ) (sheet : SheetParts) where
-  same_points : (i : ℕ) (qs rs : List (ℕ × ℕ)) → map (λ q. q.0) qs ≡ map (λ q. q.0) rs → AllByRecursion (λ q. IsLeast (MeetsEnd p m sbf sheet i q.0) q.1) qs → AllByRecursion (λ q. IsLeast (MeetsEnd p m sbf sheet i q.0) q.1) rs → qs ≡ rs
+  same_points : (i : ℕ) (qs rs : List Point) → map (λ q. q.offset) qs ≡ map (λ q. q.offset) rs → AllByRecursion (λ q. IsLeast (MeetsEnd p m sbf sheet i q.offset) q.end) qs → AllByRecursion (λ q. IsLeast (MeetsEnd p m sbf sheet i q.offset) q.end) rs → qs ≡ rs
   same_points i [] [] e a b = refl
   same_points i [] (r ∷ rs) e a b = cc
   same_points i (q ∷ qs) [] e a b = cc
   same_points i (q ∷ qs) (r ∷ rs) e a b =
-      let offset : q.0 ≡ r.0 = cc in
-      let rest : map (λ s. s.0) qs ≡ map (λ s. s.0) rs = cc in
-      let end : q.1 ≡ r.1 = same_least (MeetsEnd p m sbf sheet i q.0) q.1 r.1 a.0 (subst (λ k. IsLeast (MeetsEnd p m sbf sheet i k) r.1) (sym offset) b.0) in
-      let first : q ≡ r = pair_same q.0 r.0 q.1 r.1 offset end in
+      let offset : q.offset ≡ r.offset = cc in
+      let rest : map (λ s. s.offset) qs ≡ map (λ s. s.offset) rs = cc in
+      let end : q.end ≡ r.end = same_least (MeetsEnd p m sbf sheet i q.offset) q.end r.end a.0 (subst (λ k. IsLeast (MeetsEnd p m sbf sheet i k) r.end) (sym offset) b.0) in
+      let first : q ≡ r = point_same q.offset r.offset q.end r.end offset end in
       let others : qs ≡ rs = same_points i qs rs rest a.1 b.1 in
       cc
 
@@ -113,7 +112,7 @@ module _ (p : PolicyMeaning) (m : CutMeaning) (sbf : ℕ → ℕ) (sheet : Sheet
       let own = have.best i (omega (arith, have.count)) in
       let e : Entry = nth_entry entries i in
       let window : e.window ≡ h.window = same_least _ _ _ own.best.window h.least in
-      let points : length e.points ≡ length (points_below p sheet i h.window) = omega (arith, ap length own.best.offsets, length-map e.points (λ (q : ℕ × ℕ). q.0), ap (λ (w : ℕ). length (points_below p sheet i w)) window) in
+      let points : length e.points ≡ length (points_below p sheet i h.window) = omega (arith, ap length own.best.offsets, length-map e.points (λ (q : Point). q.offset), ap (λ (w : ℕ). length (points_below p sheet i w)) window) in
       omega (arith, points, h.many, have.few, points_rise entries (suc i) j lt, same_count entries h.entries i have.best h.before.best (omega (arith, have.count)) (omega (arith, h.before.count)))
 
   -- the tasks before one that has no bound have their entries
@@ -158,7 +157,7 @@ module _ (p : PolicyMeaning) (m : CutMeaning) (sbf : ℕ → ℕ) (sheet : Sheet
   many_or_not i Window a b = a.none b.window b.within b.least.holds
   many_or_not i Bound a b =
       let window : a.entry.window ≡ b.window = same_least _ _ _ a.best.window b.least in
-      let points : length a.entry.points ≡ length (points_below p sheet i b.window) = omega (arith, ap length a.best.offsets, length-map a.entry.points (λ (q : ℕ × ℕ). q.0), ap (λ (w : ℕ). length (points_below p sheet i w)) window) in
+      let points : length a.entry.points ≡ length (points_below p sheet i b.window) = omega (arith, ap length a.best.offsets, length-map a.entry.points (λ (q : Point). q.offset), ap (λ (w : ℕ). length (points_below p sheet i w)) window) in
       omega (arith, points, a.few, b.many, same_count a.entries b.entries i a.before.best b.before.best (omega (arith, a.before.count)) (omega (arith, b.before.count)))
 
   one_cause : (i j : ℕ) (part : Part) → HasNoBound p m sbf sheet horizon i part → HasManyPoints p m sbf sheet horizon j → ⊥

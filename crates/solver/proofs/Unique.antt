@@ -8,6 +8,7 @@ use Rattle.task_sheet.specs.SheetParts.{SheetParts}
 use Rattle.policy.specs.PolicyMeaning.{PolicyMeaning}
 use Rattle.preemption.specs.CutMeaning.{CutMeaning}
 use Rattle.certificate.specs.declared.cert.Entry.{Entry}
+use Rattle.certificate.specs.declared.cert.Point.{Point}
 use Rattle.demand.specs.Meeting.{IsWindow, MeetsEnd, MeetsBound}
 use Rattle.conditions.proofs.MeetFacts.{window_means, window_true, end_means, end_true, bound_means}
 use Rattle.conditions.specs.Conditions.{covers_jitter, is_window, ends_within, meets_end, rest_within}
@@ -56,26 +57,26 @@ module _ (p : PolicyMeaning) (m : CutMeaning) (sbf : ℕ → ℕ) (sheet : Sheet
   pub end_found : (a limit : ℕ) → IsLeastTo (MeetsEnd p m sbf sheet i a) limit (least_to (meets_end p m sbf sheet i a) limit)
   end_found a limit = least_to_is (MeetsEnd p m sbf sheet i a) (meets_end p m sbf sheet i a) (end_means p m sbf sheet i a) (end_true p m sbf sheet i a) limit
 
-  each_means : (qs : List (ℕ × ℕ)) (bound : ℕ) → meets_each p m sbf sheet i qs bound ≡ true → AllByRecursion (λ q. MeetsBound p m sbf sheet i q.0 q.1 bound) qs
+  each_means : (qs : List Point) (bound : ℕ) → meets_each p m sbf sheet i qs bound ≡ true → AllByRecursion (λ q. MeetsBound p m sbf sheet i q.offset q.end bound) qs
   each_means [] bound h = tt
   each_means (q ∷ qs) bound h =
       let parts = and_parts _ (meets_each p m sbf sheet i qs bound) h in
-      let own = and_parts (ends_within sheet i q.0 q.1 bound) (rest_within p m sbf sheet i q.0 q.1 bound) parts.0 in
-      (bound_means p m sbf sheet i q.0 q.1 bound own.0 own.1, each_means qs bound parts.1)
+      let own = and_parts (ends_within sheet i q.offset q.end bound) (rest_within p m sbf sheet i q.offset q.end bound) parts.0 in
+      (bound_means p m sbf sheet i q.offset q.end bound own.0 own.1, each_means qs bound parts.1)
 
-  each_true : (qs : List (ℕ × ℕ)) (bound : ℕ) → AllByRecursion (λ q. MeetsBound p m sbf sheet i q.0 q.1 bound) qs → meets_each p m sbf sheet i qs bound ≡ true
+  each_true : (qs : List Point) (bound : ℕ) → AllByRecursion (λ q. MeetsBound p m sbf sheet i q.offset q.end bound) qs → meets_each p m sbf sheet i qs bound ≡ true
   each_true [] bound meets = refl
   each_true (q ∷ qs) bound meets = and_from _ _ (and_from _ _ (le-leb _ _ meets.0.end) (le-leb _ _ meets.0.enough)) (each_true qs bound meets.1)
 
-  all_mean : (qs : List (ℕ × ℕ)) (bound : ℕ) → meets_bound p m sbf sheet i qs bound ≡ true → MeetsEach p m sbf sheet i qs bound
+  all_mean : (qs : List Point) (bound : ℕ) → meets_bound p m sbf sheet i qs bound ≡ true → MeetsEach p m sbf sheet i qs bound
   all_mean qs bound h =
       let parts = and_parts (covers_jitter sheet i bound) (meets_each p m sbf sheet i qs bound) h in
       record { covers = leb-true _ _ parts.0; each = each_means qs bound parts.1 }
 
-  all_true : (qs : List (ℕ × ℕ)) (bound : ℕ) → MeetsEach p m sbf sheet i qs bound → meets_bound p m sbf sheet i qs bound ≡ true
+  all_true : (qs : List Point) (bound : ℕ) → MeetsEach p m sbf sheet i qs bound → meets_bound p m sbf sheet i qs bound ≡ true
   all_true qs bound meets = and_from (covers_jitter sheet i bound) (meets_each p m sbf sheet i qs bound) (le-leb _ _ meets.covers) (each_true qs bound meets.each)
 
-  pub bound_found : (qs : List (ℕ × ℕ)) (limit : ℕ) → IsLeastTo (MeetsEach p m sbf sheet i qs) limit (least_to (meets_bound p m sbf sheet i qs) limit)
+  pub bound_found : (qs : List Point) (limit : ℕ) → IsLeastTo (MeetsEach p m sbf sheet i qs) limit (least_to (meets_bound p m sbf sheet i qs) limit)
   bound_found qs limit = least_to_is (MeetsEach p m sbf sheet i qs) (meets_bound p m sbf sheet i qs) (all_mean qs) (all_true qs) limit
 
   pub window_found : (limit : ℕ) → IsLeastTo (IsWindow p m sbf sheet i) limit (least_to (is_window p m sbf sheet i) limit)

@@ -6,6 +6,7 @@ use Rattle.task_sheet.specs.SheetParts.{SheetParts}
 use Rattle.policy.specs.PolicyMeaning.{PolicyMeaning}
 use Rattle.preemption.specs.CutMeaning.{CutMeaning}
 use Rattle.certificate.specs.declared.cert.Entry.{Entry}
+use Rattle.certificate.specs.declared.cert.Point.{Point}
 use Rattle.certificate.specs.declared.cert.Cert.{Cert}
 use Rattle.demand.specs.Meeting.{CoversJitter, IsWindow, MeetsEnd, MeetsBound}
 use Rattle.conditions.specs.Conditions.{no_entry, entry_at, failed_of}
@@ -16,16 +17,16 @@ use Rattle.solver.specs.declared.analysis.Part.{Part}
 use Rattle.solver.specs.declared.analysis.Part.TheVariants.{Window, Bound}
 
 -- the bound meets K2, and K6 and K8 at every point
-pub record MeetsEach (p : PolicyMeaning) (m : CutMeaning) (sbf : ℕ → ℕ) (sheet : SheetParts) (i : ℕ) (points : List (ℕ × ℕ)) (bound : ℕ) : Type 0 where
+pub record MeetsEach (p : PolicyMeaning) (m : CutMeaning) (sbf : ℕ → ℕ) (sheet : SheetParts) (i : ℕ) (points : List Point) (bound : ℕ) : Type 0 where
   pub covers : CoversJitter sheet i bound
-  pub each : AllByRecursion (λ q. MeetsBound p m sbf sheet i q.0 q.1 bound) points
+  pub each : AllByRecursion (λ q. MeetsBound p m sbf sheet i q.offset q.end bound) points
 
 -- the best entry of task i: its window is the least that meets K3, its offsets are the points below it,
 -- each end is the least that meets K7, and the bound the least that meets K2, and K6 and K8 at every point
 pub record IsBestEntry (p : PolicyMeaning) (m : CutMeaning) (sbf : ℕ → ℕ) (sheet : SheetParts) (i : ℕ) (e : Entry) : Type 0 where
   pub window : IsLeast (IsWindow p m sbf sheet i) e.window
-  pub offsets : map (λ q. q.0) e.points ≡ points_below p sheet i e.window
-  pub ends : AllByRecursion (λ q. IsLeast (MeetsEnd p m sbf sheet i q.0) q.1) e.points
+  pub offsets : map (λ q. q.offset) e.points ≡ points_below p sheet i e.window
+  pub ends : AllByRecursion (λ q. IsLeast (MeetsEnd p m sbf sheet i q.offset) q.end) e.points
   pub bound : IsLeast (MeetsEach p m sbf sheet i e.points) e.bound
 
 abbrev pub nth_entry : List Entry → ℕ → Entry
@@ -99,7 +100,7 @@ HasCause p m sbf sheet horizon Memory = Unit {0}
 pub record IsEntryUpTo (horizon : ℕ) (e : Entry) : Type 0 where
   pub window : e.window ≤ horizon
   pub bound : e.bound ≤ horizon
-  pub points : All (λ q. (q.0 ≤ horizon) × (q.1 ≤ horizon)) e.points
+  pub points : All (λ q. (q.offset ≤ horizon) × (q.end ≤ horizon)) e.points
 
 -- the numbers of a certificate are at most the horizon
 abbrev pub IsUpTo : ℕ → Cert → Type 0

@@ -6,6 +6,8 @@ use Rattle.task_sheet.specs.Sheets.{task_at}
 use Rattle.policy.specs.PolicyMeaning.{PolicyMeaning}
 use Rattle.preemption.specs.CutMeaning.{CutMeaning}
 use Rattle.certificate.specs.declared.cert.Entry.{Entry}
+use Rattle.certificate.specs.declared.cert.Point.{Point}
+use Rattle.certificate.specs.Text.{point_of}
 use Rattle.certificate.specs.declared.cert.Cert.{Cert}
 use Rattle.conditions.specs.Conditions.{covers_jitter, is_window, ends_within, meets_end, rest_within}
 use Rattle.solver.specs.Points.{points_below}
@@ -24,18 +26,18 @@ or_zero None = 0
 or_zero (Some n) = n
 
 -- K6 and K8 at every point
-abbrev pub meets_each : PolicyMeaning → CutMeaning → (ℕ → ℕ) → SheetParts → ℕ → List (ℕ × ℕ) → ℕ → Bool
+abbrev pub meets_each : PolicyMeaning → CutMeaning → (ℕ → ℕ) → SheetParts → ℕ → List Point → ℕ → Bool
 meets_each p m sbf sheet i [] bound = true
 meets_each p m sbf sheet i (q ∷ qs) bound =
-    (ends_within sheet i q.0 q.1 bound && rest_within p m sbf sheet i q.0 q.1 bound) && meets_each p m sbf sheet i qs bound
+    (ends_within sheet i q.offset q.end bound && rest_within p m sbf sheet i q.offset q.end bound) && meets_each p m sbf sheet i qs bound
 
 -- K2, and K6 and K8 at every point
-abbrev pub meets_bound : PolicyMeaning → CutMeaning → (ℕ → ℕ) → SheetParts → ℕ → List (ℕ × ℕ) → ℕ → Bool
+abbrev pub meets_bound : PolicyMeaning → CutMeaning → (ℕ → ℕ) → SheetParts → ℕ → List Point → ℕ → Bool
 meets_bound p m sbf sheet i points bound = covers_jitter sheet i bound && meets_each p m sbf sheet i points bound
 
 -- the points below a window with their least ends
-unfoldable pub best_points : PolicyMeaning → CutMeaning → (ℕ → ℕ) → SheetParts → ℕ → ℕ → List (ℕ × ℕ)
-best_points p m sbf sheet i window = map (λ a. (a, or_zero (least_to (meets_end p m sbf sheet i a) window))) (points_below p sheet i window)
+unfoldable pub best_points : PolicyMeaning → CutMeaning → (ℕ → ℕ) → SheetParts → ℕ → ℕ → List Point
+best_points p m sbf sheet i window = map (λ a. point_of a (or_zero (least_to (meets_end p m sbf sheet i a) window))) (points_below p sheet i window)
 
 -- the entry with this window, those points, and the least bound for them, which is at most the window and the jitter
 unfoldable pub best_of_window : PolicyMeaning → CutMeaning → (ℕ → ℕ) → SheetParts → ℕ → ℕ → Entry

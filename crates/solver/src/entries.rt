@@ -8,7 +8,7 @@ ghost use Rattle.solver.specs.Best.{IsBestEntry};
 
 use crate::laws::laws;
 use crate::searches::{least_bound, least_end};
-use certificate::Entry;
+use certificate::{Entry, Point};
 use lists::Items;
 use policy::Policy;
 use preemption::Preemption;
@@ -66,7 +66,7 @@ pub fn best_entry<P: Policy, M: Preemption, S: Supply>(
         else {
             unreachable!()
         };
-        points.push((a, end))?;
+        points.push(Point { offset: a, end })?;
         bound = least.max(bound);
         let Some(next) = next_point::<P>(sheet, i, a, window) else {
             return Ok(Entry {

@@ -5,6 +5,7 @@ use Rattle.std.proofs.lemmas.Bool.{both_ways, cases_lt, cases_Bool, and_parts, a
 use Rattle.lists.specs.Firsts.{first_of}
 use Rattle.lists.specs.Searches.{IsLeast, IsLeastTo}
 use Rattle.task_sheet.specs.SheetParts.{SheetParts}
+use Rattle.task_sheet.specs.Sheets.{task_at}
 use Rattle.policy.specs.PolicyMeaning.{PolicyMeaning}
 use Rattle.preemption.specs.CutMeaning.{CutMeaning}
 use Rattle.certificate.specs.declared.cert.Entry.{Entry}
@@ -14,7 +15,7 @@ use Rattle.conditions.proofs.MeetFacts.{window_means, window_true, end_means, en
 use Rattle.conditions.specs.Conditions.{covers_jitter, is_window, ends_within, meets_end, rest_within}
 use Rattle.solver.specs.Points.{points_below}
 use Rattle.solver.specs.Best.{MeetsEach, points_to}
-use Rattle.solver.specs.Outcome.{least_to, or_zero, meets_each, meets_bound, best_of_window, first_entries}
+use Rattle.solver.specs.Outcome.{least_to, or_zero, meets_each, meets_bound, best_points, best_of_window, first_entries}
 use Rattle.solver.proofs.Jumps.{least_here}
 
 -- a test that decides a fact finds its least number
@@ -53,6 +54,11 @@ pub found_least : (P : ℕ → Type 0) (limit n : ℕ) (found : Option ℕ) → 
 found_least P limit n (Some k) least le h = least.1
 found_least P limit n None none le h = absurd (none n le h)
 
+-- what is found lies within the limit
+found_within : (P : ℕ → Type 0) (limit : ℕ) (found : Option ℕ) → IsLeastTo P limit found → or_zero found ≤ limit
+found_within P limit None none = omega arith
+found_within P limit (Some n) least = least.0
+
 module _ (p : PolicyMeaning) (m : CutMeaning) (sbf : ℕ → ℕ) (sheet : SheetParts) (i : ℕ) where
   pub end_found : (a limit : ℕ) → IsLeastTo (MeetsEnd p m sbf sheet i a) limit (least_to (meets_end p m sbf sheet i a) limit)
   end_found a limit = least_to_is (MeetsEnd p m sbf sheet i a) (meets_end p m sbf sheet i a) (end_means p m sbf sheet i a) (end_true p m sbf sheet i a) limit
@@ -78,6 +84,14 @@ module _ (p : PolicyMeaning) (m : CutMeaning) (sbf : ℕ → ℕ) (sheet : Sheet
 
   pub bound_found : (qs : List Point) (limit : ℕ) → IsLeastTo (MeetsEach p m sbf sheet i qs) limit (least_to (meets_bound p m sbf sheet i qs) limit)
   bound_found qs limit = least_to_is (MeetsEach p m sbf sheet i qs) (meets_bound p m sbf sheet i qs) (all_mean qs) (all_true qs) limit
+
+  -- the bound for a window is at most the window and the jitter
+  pub entry_within : (window : ℕ) → (best_of_window p m sbf sheet i window).bound ≤ window + (task_at sheet i).jitter
+  unfolding best_of_window
+  entry_within window =
+      let limit = window + (task_at sheet i).jitter in
+      let points = best_points p m sbf sheet i window in
+      found_within (MeetsEach p m sbf sheet i points) limit _ (bound_found points limit)
 
   pub window_found : (limit : ℕ) → IsLeastTo (IsWindow p m sbf sheet i) limit (least_to (is_window p m sbf sheet i) limit)
   window_found limit = least_to_is (IsWindow p m sbf sheet i) (is_window p m sbf sheet i) (window_means p m sbf sheet i) (window_true p m sbf sheet i) limit

@@ -10,6 +10,7 @@ use Rattle.certificate.proofs.FieldFacts.{least_one, ender_small}
 use Rattle.certificate.specs.Text.{point_text, entry_line, entries_text, text_of, IsPoint, IsEntry, IsWithinGrammar}
 use Rattle.certificate.specs.Steps.{point_step, entries_steps, steps_of}
 use Rattle.certificate.specs.declared.cert.Entry.{Entry}
+use Rattle.certificate.specs.declared.cert.Point.{Point}
 use Rattle.certificate.specs.declared.cert.Cert.{Cert}
 use Rattle.certificate.specs.Machine.{word_text, least, greatest, ender, at_place, after_entry, after_point, after_number, next, start, walk}
 use Rattle.certificate.specs.declared.place.Word.TheVariants as word
@@ -100,18 +101,18 @@ field_read f i m k n fits low high ss t =
     number_read f i m k n fits low high ss (ender f ∷ t) ∙ rw one refl
 
 -- a point's line
-one_point : (p : ℕ × ℕ) (ss : List LineStep) (i m k : ℕ) (t : List ℕ) → IsPoint p
+one_point : (p : Point) (ss : List LineStep) (i m k : ℕ) (t : List ℕ) → IsPoint p
     → walk ss (after_point i m (suc k)) (point_text p ++ t) ≡ walk (ss ++ point_step p ∷ []) (after_point i m k) t
 one_point p ss i m k t h =
     let less : suc k - 1 ≡ k = omega arith in
-    let same : point_text p ++ t ≡ codes "p " ++ (decimal p.0 ++ (32 ∷ (decimal p.1 ++ (10 ∷ t)))) = simp append_assoc in
+    let same : point_text p ++ t ≡ codes "p " ++ (decimal p.offset ++ (32 ∷ (decimal p.end ++ (10 ∷ t)))) = simp append_assoc in
     ap (walk ss (after_point i m (suc k))) same
-    ∙ point_read ss i m (suc k) (decimal p.0 ++ (32 ∷ (decimal p.1 ++ (10 ∷ t))))
-    ∙ field_read field.Offset i m (suc k) p.0 (omega (arith, h.offset)) (omega arith) h.offset ss (decimal p.1 ++ (10 ∷ t))
-    ∙ field_read (field.Finish p.0) i m (suc k) p.1 (omega (arith, h.end)) (omega arith) h.end ss t
+    ∙ point_read ss i m (suc k) (decimal p.offset ++ (32 ∷ (decimal p.end ++ (10 ∷ t))))
+    ∙ field_read field.Offset i m (suc k) p.offset (omega (arith, h.offset)) (omega arith) h.offset ss (decimal p.end ++ (10 ∷ t))
+    ∙ field_read (field.Finish p.offset) i m (suc k) p.end (omega (arith, h.end)) (omega arith) h.end ss t
     ∙ ap (λ (w : ℕ). walk (ss ++ point_step p ∷ []) (after_point i m w) t) less
 
-all_points : (ps : List (ℕ × ℕ)) (ss : List LineStep) (i m : ℕ) (t : List ℕ) → All IsPoint ps
+all_points : (ps : List Point) (ss : List LineStep) (i m : ℕ) (t : List ℕ) → All IsPoint ps
     → walk ss (after_point i m (length ps)) (flat_map point_text ps ++ t) ≡ walk (ss ++ map point_step ps) (after_entry i m) t
 all_points [] ss i m t h = ap (λ (l : List LineStep). walk l (after_entry i m) t) (sym (append-nil ss))
 all_points (p ∷ ps) ss i m t h =

@@ -8,7 +8,8 @@ use Rattle.std.proofs.lemmas.Fmt.{decimal_digit}
 use Rattle.std.proofs.lemmas.Bool.{and_parts}
 use Rattle.poet_io.proofs.DecimalFacts.{decimal_more}
 use Rattle.certificate.proofs.FieldFacts.{cases, eq_from_test, le_from_test, positive_from_test, digit_and, greatest_small}
-use Rattle.certificate.specs.Text.{point_text, entries_text, IsPoint, IsEntry, Parses}
+use Rattle.certificate.specs.Text.{point_text, entries_text, IsPoint, IsEntry, cert_format}
+use Rattle.poet_io.specs.Texts.{Parses}
 use Rattle.certificate.specs.declared.cert.Entry.{Entry}
 use Rattle.certificate.specs.declared.cert.Cert.{Cert}
 use Rattle.certificate.specs.Machine.{word_text, after_word, least, greatest, ender, at_place, after_entry, after_point, after_number, in_word, first_digit, more_digits, next, start, IsPlace, IsRight, IsRightField}
@@ -312,7 +313,7 @@ text_join : (t r s rest c n es : List ℕ) → t ≡ (codes "poet-cert 1\n" ++ c
     → t ≡ codes "poet-cert 1\n" ++ (codes "tasks " ++ (n ++ (codes "\n" ++ (es ++ rest))))
 text_join t r s rest c n es e f g h = rw (e, f, g, h) refl
 
-pub text_of_left : (t : List ℕ) → Left start t → (c : Cert) × Parses t c
+pub text_of_left : (t : List ℕ) → Left start t → (c : Cert) × Parses cert_format t c
 text_of_left t h =
     let n = h.after in
     let es = entries_left 0 n.n n.rest n.after in (

@@ -4,9 +4,9 @@ use Rattle.std.specs.Char.{is_ascii_digit}
 use Rattle.std.proofs.lemmas.Bool.{cases_Bool}
 use Rattle.std.proofs.lemmas.List.{append-nil}
 use Rattle.std.proofs.lemmas.Bool.Decides.{nat_tests}
-use Rattle.certificate.specs.Text.{text_of, Parses}
-use Rattle.poet_io.specs.RefusedLines.{IsRefusedLine, newlines}
-use Rattle.certificate.specs.Reading.{BeginsText}
+use Rattle.poet_io.specs.Texts.{Parses, BeginsText, IsRefusedLine, newlines}
+use Rattle.poet_io.proofs.TextFacts.{begins_front}
+use Rattle.certificate.specs.Text.{text_of, cert_format}
 use Rattle.certificate.specs.Steps.{steps_of}
 use Rattle.certificate.specs.Progress.{Progress}
 use Rattle.certificate.specs.declared.cert.Cert.{Cert}
@@ -61,32 +61,32 @@ left_all l [] t right h = h
 left_all l (x ∷ b) t right h = back l.place x (b ++ t) right.right (left_all (after_byte l x) b t (lines_next l.place x l.line right) h)
 
 -- certificates begin so exactly where the place is good
-pub good_from_begins : (b : List ℕ) → BeginsText b → (after_bytes beginning b).place.expected ≡ Nothing → ⊥
+pub good_from_begins : (b : List ℕ) → BeginsText cert_format b → (after_bytes beginning b).place.expected ≡ Nothing → ⊥
 good_from_begins b h not_so =
-    let over = ap (λ (r : List LineStep × Place). r.1.expected) (text_walk h.cert h.parses.within) in
+    let over = ap (λ (r : List LineStep × Place). r.1.expected) (text_walk h.value h.parses.within) in
     let whole = walk-append [] start b h.more in
     let r = walk [] start b in
     let bad : r.1.expected ≡ Nothing = ap (λ (p : Place). p.expected) (sym (place_of [] beginning b)) ∙ not_so in
     let stays = nothing_stays r.0 r.1 h.more bad in
-    let one : (walk [] start (text_of h.cert)).1.expected ≡ Nothing = ap (λ (t : List ℕ). (walk [] start t).1.expected) (sym h.parses.text) ∙ ap (λ (r : List LineStep × Place). r.1.expected) whole ∙ stays in
+    let one : (walk [] start (text_of h.value)).1.expected ≡ Nothing = ap (λ (t : List ℕ). (walk [] start t).1.expected) (sym h.parses.text) ∙ ap (λ (r : List LineStep × Place). r.1.expected) whole ∙ stays in
     absurd (cc)
 
-pub begins_from_good : (b : List ℕ) → ((after_bytes beginning b).place.expected ≡ Nothing → ⊥) → BeginsText b
+pub begins_from_good : (b : List ℕ) → ((after_bytes beginning b).place.expected ≡ Nothing → ⊥) → BeginsText cert_format b
 begins_from_good b good =
     let s = some_left (after_bytes beginning b).place (right_all b) good in
     let t = text_of_left (b ++ s.text) (left_all beginning b s.text start_right s.holds) in
-    record { cert = t.0; more = s.text; parses = t.1 }
+    record { value = t.0; more = s.text; parses = t.1 }
 
 -- and they end so exactly where it is over
 left_over : (e : Expected) (i m k : ℕ) → e ≡ Over → LeftAt e i m k []
 left_over e i m k h = rw h refl
 
-pub parses_from_over : (b : List ℕ) → (after_bytes beginning b).place.expected ≡ Over → (c : Cert) × Parses b c
+pub parses_from_over : (b : List ℕ) → (after_bytes beginning b).place.expected ≡ Over → (c : Cert) × Parses cert_format b c
 parses_from_over b over =
     let here : Left (after_bytes beginning b).place [] = (let p = (after_bytes beginning b).place in left_over p.expected p.task p.after p.points over) in
     rw append-nil at (text_of_left (b ++ []) (left_all beginning b [] start_right here))
 
-pub over_from_parses : (b : List ℕ) (c : Cert) → Parses b c → (after_bytes beginning b).place.expected ≡ Over
+pub over_from_parses : (b : List ℕ) (c : Cert) → Parses cert_format b c → (after_bytes beginning b).place.expected ≡ Over
 over_from_parses b c h = ap (λ (p : Place). p.expected) (place_of [] beginning b) ∙ ap (λ (t : List ℕ). (walk [] start t).1.expected) h.text ∙ ap (λ (r : List LineStep × Place). r.1.expected) (text_walk c h.within)
 
 -- what the lines say
@@ -155,7 +155,7 @@ quiet_at (Digits f v) i m k x not_so = elim (cases_Bool (x == ender f)) [
 quiet_at Over i m k x not_so = λ good. absurd (good refl)
 quiet_at Nothing i m k x not_so = λ good. absurd (good refl)
 
-pub says_is : (b more : List ℕ) (x : ℕ) (c : Cert) → Parses (b ++ x ∷ more) c →
+pub says_is : (b more : List ℕ) (x : ℕ) (c : Cert) → Parses cert_format (b ++ x ∷ more) c →
     (next (after_bytes beginning b).place x).1 ≡ cond (x == 10) (slice_index_or (steps_of c) (newlines b) says.More) says.More
 says_is b more x c h =
     let r = walk [] start b in
@@ -236,7 +236,7 @@ nothing_or_good (Digits f v) = inr (λ h. cc)
 nothing_or_good Over = inr (λ h. cc)
 nothing_or_good Nothing = inl refl
 
-pub bad_is : (b : List ℕ) (x : ℕ) → ((next (after_bytes beginning b).place x).1 ≡ says.Bad) ↔ (BeginsText (b ++ x ∷ []) → ⊥)
+pub bad_is : (b : List ℕ) (x : ℕ) → ((next (after_bytes beginning b).place x).1 ≡ says.Bad) ↔ (BeginsText cert_format (b ++ x ∷ []) → ⊥)
 bad_is b x =
     let p = (after_bytes beginning b).place in
     let tells = tells_at p.expected p.task p.after p.points x in
@@ -256,9 +256,6 @@ good_test (Digits f v) h = refl
 good_test Over h = refl
 good_test Nothing h = absurd (h refl)
 
-begins_front : (b more : List ℕ) → BeginsText (b ++ more) → BeginsText b
-begins_front b more h = record { cert = h.cert; more = more ++ h.more; parses = subst (λ (t : List ℕ). Parses t h.cert) (append_assoc b more h.more) h.parses }
-
 last_or_none : (l : List ℕ) → (l ≡ []) ⊎ ((front : List ℕ) × (y : ℕ) × (l ≡ front ++ y ∷ []))
 last_or_none [] = inl refl
 last_or_none (x ∷ l) = elim (last_or_none l) [
@@ -266,9 +263,9 @@ last_or_none (x ∷ l) = elim (last_or_none l) [
   | inr f ↦ inr (x ∷ f.0, f.1, ap (λ (t : List ℕ). x ∷ t) f.2)
 ]
 
-refused_good : (b : List ℕ) (x n : ℕ) → BeginsText (b ++ x ∷ []) → IsRefusedLine BeginsText b n → IsRefusedLine BeginsText (b ++ x ∷ []) (cond (x == 10 && true) (n + 1) n)
+refused_good : (b : List ℕ) (x n : ℕ) → BeginsText cert_format (b ++ x ∷ []) → IsRefusedLine cert_format b n → IsRefusedLine cert_format (b ++ x ∷ []) (cond (x == 10 && true) (n + 1) n)
 refused_good b x n begins h =
-    let long = h.longest b [] (sym (append-nil b)) (begins_front b (x ∷ []) begins) in
+    let long = h.longest b [] (sym (append-nil b)) (begins_front cert_format b (x ∷ []) begins) in
     let empty : h.rest ≡ [] = nil_from_length h.rest (omega (arith, ap length h.whole, length-append h.front h.rest)) in
     let same : b ≡ h.front = h.whole ∙ ap (λ (t : List ℕ). h.front ++ t) empty ∙ append-nil h.front in
     let count : n ≡ 1 + newlines b = h.line ∙ ap (λ (t : List ℕ). 1 + newlines t) (sym same) in
@@ -284,14 +281,14 @@ refused_good b x n begins h =
       ];
     }
 
-refused_bad : (b : List ℕ) (x n : ℕ) → (BeginsText (b ++ x ∷ []) → ⊥) → IsRefusedLine BeginsText b n → IsRefusedLine BeginsText (b ++ x ∷ []) n
+refused_bad : (b : List ℕ) (x n : ℕ) → (BeginsText cert_format (b ++ x ∷ []) → ⊥) → IsRefusedLine cert_format b n → IsRefusedLine cert_format (b ++ x ∷ []) n
 refused_bad b x n bad h = record {
   front = h.front;
   rest = h.rest ++ x ∷ [];
   whole = ap (λ (t : List ℕ). t ++ x ∷ []) h.whole ∙ append_assoc h.front h.rest (x ∷ []);
   begins = h.begins;
   longest = λ longer more e begins. elim (last_or_none more) [
-    | inl none ↦ absurd (bad (subst BeginsText (sym (e ∙ ap (λ (t : List ℕ). longer ++ t) none ∙ append-nil longer)) begins))
+    | inl none ↦ absurd (bad (subst (BeginsText cert_format) (sym (e ∙ ap (λ (t : List ℕ). longer ++ t) none ∙ append-nil longer)) begins))
     | inr f ↦ h.longest longer f.0 ((same_from_push b (longer ++ f.0) x f.1 (e ∙ ap (λ (t : List ℕ). longer ++ t) f.2 ∙ sym (append_assoc longer f.0 (f.1 ∷ [])))).0) begins
   ];
   line = h.line;
@@ -301,30 +298,30 @@ and_false : (x : Bool) → (x && false) ≡ false
 and_false true = refl
 and_false false = refl
 
-refused_next : (b : List ℕ) (x : ℕ) → IsRefusedLine BeginsText b (after_bytes beginning b).line → IsRefusedLine BeginsText (b ++ x ∷ []) (after_bytes beginning (b ++ x ∷ [])).line
+refused_next : (b : List ℕ) (x : ℕ) → IsRefusedLine cert_format b (after_bytes beginning b).line → IsRefusedLine cert_format (b ++ x ∷ []) (after_bytes beginning (b ++ x ∷ [])).line
 refused_next b x h =
     let l = after_bytes beginning b in
     let q = (next l.place x).0 in
     let same : (after_bytes beginning (b ++ x ∷ [])).line ≡ cond (x == 10 && is_good_at q.expected) (l.line + 1) l.line = ap (λ (v : Progress). v.line) (after_bytes-append beginning b (x ∷ [])) in
     let place : (after_bytes beginning (b ++ x ∷ [])).place.expected ≡ q.expected = ap (λ (v : Progress). v.place.expected) (after_bytes-append beginning b (x ∷ [])) in
     elim (nothing_or_good q.expected) [
-      | inl nothing ↦ subst (IsRefusedLine BeginsText (b ++ x ∷ [])) (sym (same ∙ rw (nothing, and_false (x == 10)) refl)) (refused_bad b x l.line (λ begins. good_from_begins (b ++ x ∷ []) begins (place ∙ nothing)) h)
-      | inr good ↦ subst (IsRefusedLine BeginsText (b ++ x ∷ [])) (sym (same ∙ ap (λ (g : Bool). cond (x == 10 && g) (l.line + 1) l.line) (good_test q.expected good)))
+      | inl nothing ↦ subst (IsRefusedLine cert_format (b ++ x ∷ [])) (sym (same ∙ rw (nothing, and_false (x == 10)) refl)) (refused_bad b x l.line (λ begins. good_from_begins (b ++ x ∷ []) begins (place ∙ nothing)) h)
+      | inr good ↦ subst (IsRefusedLine cert_format (b ++ x ∷ [])) (sym (same ∙ ap (λ (g : Bool). cond (x == 10 && g) (l.line + 1) l.line) (good_test q.expected good)))
           (refused_good b x l.line (begins_from_good (b ++ x ∷ []) (λ nothing. good (sym place ∙ nothing))) h)
     ]
 
-refused_from : (done b : List ℕ) → IsRefusedLine BeginsText done (after_bytes beginning done).line → IsRefusedLine BeginsText (done ++ b) (after_bytes beginning (done ++ b)).line
-refused_from done [] h = subst (λ (t : List ℕ). IsRefusedLine BeginsText t (after_bytes beginning t).line) (sym (append-nil done)) h
-refused_from done (x ∷ b) h = subst (λ (t : List ℕ). IsRefusedLine BeginsText t (after_bytes beginning t).line) (append_assoc done (x ∷ []) b) (refused_from (done ++ x ∷ []) b (refused_next done x h))
+refused_from : (done b : List ℕ) → IsRefusedLine cert_format done (after_bytes beginning done).line → IsRefusedLine cert_format (done ++ b) (after_bytes beginning (done ++ b)).line
+refused_from done [] h = subst (λ (t : List ℕ). IsRefusedLine cert_format t (after_bytes beginning t).line) (sym (append-nil done)) h
+refused_from done (x ∷ b) h = subst (λ (t : List ℕ). IsRefusedLine cert_format t (after_bytes beginning t).line) (append_assoc done (x ∷ []) b) (refused_from (done ++ x ∷ []) b (refused_next done x h))
 
-pub line_is : (b : List ℕ) → IsRefusedLine BeginsText b (after_bytes beginning b).line
+pub line_is : (b : List ℕ) → IsRefusedLine cert_format b (after_bytes beginning b).line
 line_is b = refused_from [] b (record { front = []; rest = []; whole = refl; begins = begins_from_good [] (λ h. cc); longest = λ longer more e _. omega (arith, ap length e, length-append longer more); line = refl })
 
 -- the same, of a value that stands for the bytes
-pub bad_stands : (l : Progress) (b : List ℕ) (x : ℕ) → StandsFor l b → ((next l.place x).1 ≡ says.Bad) ↔ (BeginsText (b ++ x ∷ []) → ⊥)
-bad_stands l b x h = subst (λ (v : Progress). ((next v.place x).1 ≡ says.Bad) ↔ (BeginsText (b ++ x ∷ []) → ⊥)) (sym h.is) (bad_is b x)
+pub bad_stands : (l : Progress) (b : List ℕ) (x : ℕ) → StandsFor l b → ((next l.place x).1 ≡ says.Bad) ↔ (BeginsText cert_format (b ++ x ∷ []) → ⊥)
+bad_stands l b x h = subst (λ (v : Progress). ((next v.place x).1 ≡ says.Bad) ↔ (BeginsText cert_format (b ++ x ∷ []) → ⊥)) (sym h.is) (bad_is b x)
 
-pub says_stands : (l : Progress) (b more : List ℕ) (x : ℕ) (c : Cert) → StandsFor l b → Parses (b ++ x ∷ more) c →
+pub says_stands : (l : Progress) (b more : List ℕ) (x : ℕ) (c : Cert) → StandsFor l b → Parses cert_format (b ++ x ∷ more) c →
     (next l.place x).1 ≡ cond (x == 10) (slice_index_or (steps_of c) (newlines b) says.More) says.More
 says_stands l b more x c h parses = ap (λ (v : Progress). (next v.place x).1) h.is ∙ says_is b more x c parses
 
@@ -335,11 +332,11 @@ over_test (Digits f v) h = absurd (cc)
 over_test Over h = refl
 over_test Nothing h = absurd (cc)
 
-pub over_stands : (l : Progress) (b : List ℕ) → StandsFor l b → (is_over_at l.place.expected ≡ true) ↔ ((c : Cert) × Parses b c)
+pub over_stands : (l : Progress) (b : List ℕ) → StandsFor l b → (is_over_at l.place.expected ≡ true) ↔ ((c : Cert) × Parses cert_format b c)
 over_stands l b h = (
   λ over. parses_from_over b (ap (λ (v : Progress). v.place.expected) (sym h.is) ∙ over_test l.place.expected over),
   λ parses. ap is_over_at (ap (λ (v : Progress). v.place.expected) h.is ∙ over_from_parses b parses.0 parses.1),
 )
 
-pub line_stands : (l : Progress) (b : List ℕ) → StandsFor l b → IsRefusedLine BeginsText b l.line
-line_stands l b h = subst (IsRefusedLine BeginsText b) (ap (λ (v : Progress). v.line) (sym h.is)) (line_is b)
+pub line_stands : (l : Progress) (b : List ℕ) → StandsFor l b → IsRefusedLine cert_format b l.line
+line_stands l b h = subst (IsRefusedLine cert_format b) (ap (λ (v : Progress). v.line) (sym h.is)) (line_is b)

@@ -2,8 +2,8 @@
 use Rattle.std.specs.Prelude.{ℕ, List, [], ◌∷◌, ◌++◌, fold, if◌then◌else◌, Result, Ok, Err}
 use Rattle.certificate.specs.declared.cert.Entry.{Entry}
 use Rattle.certificate.specs.declared.cert.Cert.{Cert}
-use Rattle.certificate.specs.declared.refusal.CertRefusal.{CertRefusal}
-use Rattle.certificate.specs.declared.refusal.CertRefusal.TheVariants.{Text}
+use Rattle.poet_io.specs.declared.text_refusal.TextRefusal.{TextRefusal}
+use Rattle.poet_io.specs.declared.text_refusal.TextRefusal.TheVariants.{Line}
 use Rattle.certificate.specs.declared.step.LineStep.{LineStep}
 use Rattle.certificate.specs.declared.step.LineStep.TheVariants as says
 use Rattle.certificate.specs.Machine.{walk, start, after_bytes, beginning, is_over_at}
@@ -29,7 +29,7 @@ abbrev pub entries_of : List LineStep → List Entry
 entries_of steps = fold add_step [] steps
 
 -- what reading the bytes gives
-unfoldable pub cert_of_text : List ℕ → Result Cert CertRefusal
+unfoldable pub cert_of_text : List ℕ → Result Cert TextRefusal
 cert_of_text bytes =
     let l = after_bytes beginning bytes in
-    if is_over_at l.place.expected then Ok (record { entries = entries_of (walk [] start bytes).0 }) else Err (Text l.line)
+    if is_over_at l.place.expected then Ok (record { entries = entries_of (walk [] start bytes).0 }) else Err (Line l.line)

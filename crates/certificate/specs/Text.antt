@@ -1,6 +1,7 @@
 -- The one text of each certificate.
 use Rattle.std.specs.Prelude.{◌≡◌, ℕ, suc, ◌≤◌, List, [], ◌∷◌, ◌++◌, length, codes, decimal, All}
 use Rattle.std.specs.List.{flat_map}
+use Rattle.poet_io.specs.Texts.{Format}
 use Rattle.certificate.specs.declared.cert.Entry.{Entry}
 use Rattle.certificate.specs.declared.cert.Cert.{Cert}
 
@@ -46,7 +47,6 @@ pub record IsWithinGrammar (c : Cert) : Type 0 where
   pub few : length c.entries ≤ 256
   pub entries : All IsEntry c.entries
 
--- the bytes are the text of the certificate
-pub record Parses (bytes : List ℕ) (c : Cert) : Type 0 where
-  pub within : IsWithinGrammar c
-  pub text : bytes ≡ text_of c
+-- the format of certificates: each that is within the grammar has its one text
+abbrev pub cert_format : Format Cert
+cert_format = record { is_within = IsWithinGrammar; is_text_of = λ bytes c. bytes ≡ text_of c }

@@ -26,6 +26,7 @@ pub fn gap_failed<P: Policy>(sheet: &Sheet, i: u32, p: u64, q: u64) -> bool
 
 /// The first of `K4` to `K8` that fails of task `i` at the point with this offset and end, which
 /// follows the offset `before`. Window, bound, offsets and end are in ticks.
+#[tactic(auto, using(task_sheet::specs::Limits::jitter_high))]
 pub fn point_failed<P: Policy, M: Preemption, S: Supply>(
     sheet: &Sheet,
     supply: &S,
@@ -57,14 +58,15 @@ pub fn point_failed<P: Policy, M: Preemption, S: Supply>(
     {
         return Some(Failed::of_point(i, p, Cond::K5));
     }
-    if end > offset + bound {
+    let jitter = sheet.task(i).jitter;
+    if end + jitter > offset + bound {
         return Some(Failed::of_point(i, offset, Cond::K6));
     }
     let need = need::<P, M>(sheet, i, offset, end);
     if (supply.sbf(end) as u128) < need {
         return Some(Failed::of_point(i, offset, Cond::K7));
     }
-    if (supply.sbf(offset + bound) as u128) < need + rest::<M>(sheet, i) as u128 {
+    if (supply.sbf(offset + bound - jitter) as u128) < need + rest::<M>(sheet, i) as u128 {
         return Some(Failed::of_point(i, offset, Cond::K8));
     }
     None

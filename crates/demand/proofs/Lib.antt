@@ -1,2 +1,3 @@
 pub mod DemandFacts
 pub mod Gaps
+pub mod MeetingFacts

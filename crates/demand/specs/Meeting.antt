@@ -26,10 +26,19 @@ pub record MeetsBound (p : PolicyMeaning) (m : CutMeaning) (sbf : ℕ → ℕ) (
   pub end : x + (task_at sheet i).jitter ≤ a + bound
   pub enough : need_of p m sheet i a x + rest_of m sheet i ≤ sbf (a + bound - (task_at sheet i).jitter)
 
+-- K2, K6 and K8
+pub record BoundMeets (p : PolicyMeaning) (m : CutMeaning) (sbf : ℕ → ℕ) (sheet : SheetParts) (i a x bound : ℕ) : Type 0 where
+  pub covers : CoversJitter sheet i bound
+  pub within : MeetsBound p m sbf sheet i a x bound
+
 -- K6 to K8 at offset a
 pub record MeetsAt (p : PolicyMeaning) (m : CutMeaning) (sbf : ℕ → ℕ) (sheet : SheetParts) (i bound a x : ℕ) : Type 0 where
   pub end : MeetsEnd p m sbf sheet i a x
   pub within : MeetsBound p m sbf sheet i a x bound
+
+-- each offset below the window has an end that meets K6 to K8
+abbrev pub EveryOffset : PolicyMeaning → CutMeaning → (ℕ → ℕ) → SheetParts → ℕ → ℕ → ℕ → Type 0
+EveryOffset p m sbf sheet i window bound = (a : ℕ) → a < window → (x : ℕ) × MeetsAt p m sbf sheet i bound a x
 
 -- K4, without the window: the first offset is 0, and each other is greater than the one before
 abbrev pub ComesNext : Option ℕ → ℕ → Type 0

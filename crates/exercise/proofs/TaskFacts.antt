@@ -7,11 +7,12 @@ use Rattle.std.proofs.lemmas.Fmt.{decimal_by_steps, length-decimal-le, decimal_i
 use Rattle.std.proofs.lemmas.List.Folds.{list_all-append}
 use Rattle.std.proofs.lemmas.Nat.{mod_below}
 use Rattle.lists.specs.Ranges.{is_between}
+use Rattle.curve.specs.Curves.{periodic}
 use Rattle.curve.specs.Validity.{IsCurve}
 use Rattle.task_sheet.specs.Rules.{is_name, is_in_range, are_in_range}
 use Rattle.task_sheet.specs.Sheets.{CutFits, IsTask}
 use Rattle.task_sheet.proofs.RuleFacts.{positive_from}
-use Rattle.exercise.specs.GeneratedSheet.{halves, cut_by, curve_of, task_by}
+use Rattle.exercise.specs.GeneratedSheet.{halves, cut_by, task_by}
 
 pub between : (low high n : ℕ) → low ≤ n → n ≤ high → is_between low high n ≡ true
 between low high n l h = and_from _ _ (le-leb low n l) (le-leb n high h)
@@ -27,7 +28,7 @@ name_fits i l =
     let short : length (decimal i) ≤ 2 = length-decimal-le 2 i (omega arith) (omega arith) (omega arith) in
     and_from _ _ (between 1 32 (length (116 ∷ decimal i)) (omega arith) (omega arith)) (and_from _ _ (between 33 126 116 (omega arith) (omega arith)) (printable i (omega arith)))
 
-pub curve_valid : (period : ℕ) → 1 ≤ period → period ≤ 1000000000 → IsCurve (curve_of period)
+pub curve_valid : (period : ℕ) → 1 ≤ period → period ≤ 1000000000 → IsCurve (periodic period)
 curve_valid period l h = record {
   horizon_low = l;
   horizon_high = h;

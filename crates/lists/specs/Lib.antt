@@ -1,4 +1,5 @@
 pub mod Sums
 pub mod Searches
+pub mod Lending
 pub mod Ranges
 pub mod Firsts

@@ -1,10 +1,11 @@
 //! A `Vec` and a `String` that contracts see as lists.
-ghost use Rattle.std.specs.Prelude.{◌≡◌, ◌==◌, ◌↔◌, [], length, IsTrue};
+ghost use Rattle.std.specs.Prelude.{◌≡◌, ◌==◌, ◌↔◌, [], ◌∷◌, ◌++◌, length, IsTrue, OnOk, OnErr};
 ghost use Rattle.std.specs.String.{string_bytes};
 ghost use Rattle.std.proofs.Common.{rules};
 ghost use Rattle.std.specs.Cmp.Rules.{comparing};
 ghost use Rattle.std.specs.Cmp.Lexicographic.{pointwise};
 
+use std::alloc::AllocError;
 use std::marker::Model;
 
 /// A `Vec` that contracts see as the list of its elements.
@@ -27,6 +28,9 @@ impl<T> Model for Items<T> {
 }
 
 impl<T> Items<T> {
+    ghost use Rattle.std.specs.Borrow.{sem};
+    ghost use Rattle.lists.specs.Lending.{LendsSlice};
+
     pub fn new(vec: Vec<T>) -> Items<T>
         ensures { result ≡ vec.items }
     {
@@ -46,6 +50,14 @@ impl<T> Items<T> {
         self.vec.as_slice()
     }
 
+    /// The elements, to be changed in place.
+    pub fn as_mut_slice(&mut self) -> &mut [T]
+        ensures* writes_back { sem 𝓛 (LendsSlice T.row self.entry result) }
+        ensures value { result.now ≡ self.old }
+    {
+        self.vec.as_mut_slice()
+    }
+
     pub fn len(&self) -> usize
         ensures { result ≡ length self.now }
     {
@@ -56,6 +68,16 @@ impl<T> Items<T> {
         ensures { IsTrue result ↔ (length self.now ≡ 0) }
     {
         self.vec.is_empty()
+    }
+}
+
+impl<T: Drop> Items<T> {
+    /// Puts one more element behind the others.
+    pub fn push(&mut self, item: T) -> Result<(), AllocError>
+        ensures pushed { OnOk result (self.new ≡ self.old ++ (item ∷ [])) }
+        ensures stays { OnErr result (self.new ≡ self.old) }
+    {
+        Ok(self.vec.push(item)?)
     }
 }
 

@@ -1,15 +1,16 @@
 -- What status 0 says of the files.
 use Rattle.std.specs.Prelude.{◌≡◌, ℕ, Bool, false, List, length, Option, Some, None, Ok}
 use Rattle.poet_io.specs.Shelves.{Files}
+use Rattle.poet_io.specs.Texts.{Parses}
 use Rattle.task_sheet.specs.SheetParts.{SheetParts}
 use Rattle.sheet_text.specs.SheetRows.{sheet_of_text}
 use Rattle.certificate.specs.declared.cert.Cert.{Cert}
-use Rattle.certificate.specs.Text.{Parses}
+use Rattle.certificate.specs.Text.{cert_format}
 use Rattle.policy.specs.Policies.{meaning_of}
 use Rattle.preemption.specs.Kinds.{per_task_meaning}
 use Rattle.supply.specs.Promises.{sbf_of}
 use Rattle.run_model.specs.declared.run.Run.{Run}
-use Rattle.run_text.specs.Reading.{Parses as IsRunText}
+use Rattle.run_text.specs.Text.{run_format}
 use Rattle.schedule_laws.specs.Compliance.{IsCompliant}
 use Rattle.schedule_laws.specs.Bounded.{AreBounded}
 use Rattle.simulated_run.specs.declared.mode.Mode.{Mode}
@@ -29,7 +30,7 @@ pub record BoundsHold (sheet : SheetParts) (deadlines : Bool) (name : List ℕ) 
   pub bytes : List ℕ
   pub file : files name ≡ Some bytes
   pub cert : Cert
-  pub reads : Parses bytes cert
+  pub reads : Parses cert_format bytes cert
   pub count : length cert.entries ≡ length sheet.tasks
   pub bounded : AreBounded (meaning_of sheet.policy) per_task_meaning (sbf_of sheet.supply) sheet (bounds_of cert)
   pub in_time : AreInTime (meaning_of sheet.policy) per_task_meaning (sbf_of sheet.supply) sheet deadlines
@@ -65,7 +66,7 @@ pub record RunHolds (sheet : SheetParts) (name : List ℕ) (files : Files) : Typ
   pub bytes : List ℕ
   pub file : files name ≡ Some bytes
   pub run : Run
-  pub reads : IsRunText bytes run
+  pub reads : Parses run_format bytes run
   pub complies : RunComplies sheet run
 
 -- the bytes of the two files are a sheet and a run, and it complies with the sheet

@@ -1,17 +1,18 @@
 -- What status 1 says of the files.
 use Rattle.std.specs.Prelude.{◌≡◌, ℕ, Bool, false, List, Option, Some, None, Ok}
 use Rattle.poet_io.specs.Shelves.{Files}
+use Rattle.poet_io.specs.Texts.{Parses}
 use Rattle.task_sheet.specs.SheetParts.{SheetParts}
 use Rattle.sheet_text.specs.SheetRows.{sheet_of_text}
 use Rattle.policy.specs.Policies.{meaning_of}
 use Rattle.preemption.specs.Kinds.{per_task_meaning}
 use Rattle.supply.specs.Promises.{sbf_of}
 use Rattle.certificate.specs.declared.cert.Cert.{Cert}
-use Rattle.certificate.specs.Text.{Parses}
+use Rattle.certificate.specs.Text.{cert_format}
 use Rattle.conditions.specs.declared.failed.Failed.{Failed}
 use Rattle.conditions.specs.Conditions.{failed_of}
 use Rattle.run_model.specs.declared.run.Run.{Run}
-use Rattle.run_text.specs.Reading.{Parses as IsRunText}
+use Rattle.run_text.specs.Text.{run_format}
 use Rattle.schedule_laws.specs.Compliance.{IsCompliant}
 use Rattle.poet_cli.specs.Analyses.{NothingMeets}
 use Rattle.poet_cli.specs.Words.{Asked, CheckOf, AnalyseOf, SimulateOf, AuditOf, ReportOf, ExerciseOf}
@@ -26,7 +27,7 @@ pub record CertificateFails (sheet : SheetParts) (deadlines : Bool) (name : List
   pub bytes : List ℕ
   pub file : files name ≡ Some bytes
   pub cert : Cert
-  pub reads : Parses bytes cert
+  pub reads : Parses cert_format bytes cert
   pub failing : Fails sheet deadlines cert
 
 -- the bytes of the two files are a sheet and a certificate, and it fails to meet a condition
@@ -46,7 +47,7 @@ pub record RunFails (sheet : SheetParts) (name : List ℕ) (files : Files) : Typ
   pub bytes : List ℕ
   pub file : files name ≡ Some bytes
   pub run : Run
-  pub reads : IsRunText bytes run
+  pub reads : Parses run_format bytes run
   pub breaks : RunBreaks sheet run
 
 -- the bytes of the two files are a sheet and a run, and it does not comply with the sheet

@@ -1,13 +1,13 @@
 -- The answers of the commands over runs.
 use Rattle.std.specs.Prelude.{◌≡◌, ℕ, List, Result, Ok, Err}
+use Rattle.poet_io.specs.declared.text_refusal.TextRefusal.{TextRefusal}
+use Rattle.poet_io.specs.declared.text_refusal.TextRefusal.TheVariants as texts
 use Rattle.poet_io.specs.Shelves.{Files}
 use Rattle.task_sheet.specs.SheetParts.{SheetParts}
 use Rattle.policy.specs.Policies.{meaning_of}
 use Rattle.preemption.specs.Kinds.{per_task_meaning}
 use Rattle.supply.specs.Promises.{sbf_of}
 use Rattle.run_model.specs.declared.run.Run.{Run}
-use Rattle.run_text.specs.declared.refusal.RunRefusal.{RunRefusal}
-use Rattle.run_text.specs.declared.refusal.RunRefusal.TheVariants as runs
 use Rattle.run_text.specs.Text.{text_of}
 use Rattle.run_text.specs.Parsing.{run_of_text}
 use Rattle.simulated_run.specs.declared.mode.Mode.{Mode}
@@ -39,10 +39,10 @@ simulated_by (Err simulator.Memory) = Err Memory
 abbrev pub simulate_answer : List ℕ → Mode → ℕ → Files → Ending
 simulate_answer sheet mode ticks files = next (sheet_in sheet files) (λ parts. simulated_by (simulation_of (world_for parts mode) ticks))
 
-abbrev pub run_read : Result Run RunRefusal → Result Run Refusal
+abbrev pub run_read : Result Run TextRefusal → Result Run Refusal
 run_read (Ok run) = Ok run
-run_read (Err (runs.Text line)) = Err (Text source.Run line)
-run_read (Err runs.Memory) = Err Memory
+run_read (Err (texts.Line line)) = Err (Text source.Run line)
+run_read (Err texts.Memory) = Err Memory
 
 -- the run of a file
 abbrev pub run_in : List ℕ → Files → Result Run Refusal

@@ -19,10 +19,10 @@ use crate::printing::refused;
 use crate::reading::{read_file, sheet_at};
 use crate::refusal::{Refusal, Source};
 use cert_check::judge_cert;
-use certificate::{Cert, CertRefusal, read_cert};
+use certificate::{Cert, read_cert};
 use conditions::Failed;
 use lists::Items;
-use poet_io::Shelf;
+use poet_io::{Shelf, TextRefusal};
 use policy::{Edf, Fifo, Fp};
 use preemption::PerTask;
 use report::{json_report, text_report};
@@ -80,13 +80,13 @@ fn certificate_ending<H: Shelf>(
     let bytes = read_file(alloc, shelf, name, Source::Certificate)?;
     let cert = match read_cert(alloc, &bytes) {
         Ok(cert) => cert,
-        Err(CertRefusal::Text { line }) => {
+        Err(TextRefusal::Line(line)) => {
             return Err(Refusal::Text {
                 source: Source::Certificate,
                 line,
             });
         }
-        Err(CertRefusal::Memory) => return Err(Refusal::Memory),
+        Err(TextRefusal::Memory) => return Err(Refusal::Memory),
     };
     match reported(alloc, sheet, &cert, form) {
         Ok(one) => Ok(one),

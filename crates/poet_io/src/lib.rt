@@ -3,7 +3,9 @@
 #![tactic(auto)]
 
 mod calls;
+mod eater;
 mod file_shelf;
+mod log;
 mod mem_shelf;
 mod mem_sink;
 mod numbers;
@@ -11,12 +13,16 @@ mod pushing;
 mod shelf;
 mod sink;
 mod std_sink;
+mod text_refusal;
 
+pub use eater::{Eater, PourRefusal, pour};
 pub use file_shelf::FileShelf;
+pub use log::{Call, Event, Log, Taken};
 pub use mem_shelf::MemShelf;
 pub use mem_sink::MemSink;
-pub use numbers::{put_number, read_number, read_number_in};
+pub use numbers::{put_number, put_wide, read_number, read_number_in};
 pub use pushing::{push_field, push_number};
 pub use shelf::{ReadRefusal, Shelf, ShelfFault, read_whole};
 pub use sink::{Sink, SinkFault, write_all, write_parts};
 pub use std_sink::StdSink;
+pub use text_refusal::TextRefusal;

@@ -21,7 +21,7 @@ use Rattle.task_sheet.specs.SheetParts.{SheetParts}
 use Rattle.task_sheet.specs.Rules.{is_in_range, supply_rule, cut_rule, task_rule, tasks_rule}
 use Rattle.task_sheet.specs.Sheets.{parts_of, no_task, IsValidSheet}
 use Rattle.task_sheet.proofs.RuleFacts.{both_hold, holds_means, positive_from, positive_high, cut_passes, promise_passes, task_means, tasks_from_valid}
-use Rattle.sheet_text.specs.Documents.{number_of, all_of, count_of}
+use Rattle.sheet_text.specs.Documents.{number_of, all_of, items_count}
 use Rattle.sheet_text.specs.SupplyRows.{promised_rule}
 use Rattle.sheet_text.specs.CurveRows.{step_of, curve_rule}
 use Rattle.sheet_text.specs.CutRows.{segmented_rule, preemption_rule}
@@ -100,7 +100,7 @@ tables : (ts : List Task) → are_tables (items_of (map task_data ts)) ≡ true
 tables [] = refl
 tables (t ∷ ts) = tables ts
 
-many : (ts : List Task) → count_of (items_of (map task_data ts)) ≡ length ts
+many : (ts : List Task) → items_count (items_of (map task_data ts)) ≡ length ts
 many [] = refl
 many (t ∷ ts) = omega (arith, many ts)
 

@@ -10,7 +10,8 @@ use Rattle.task_sheet.specs.declared.refusal.Place.TheVariants as places
 use Rattle.task_sheet.specs.declared.refusal.Field.TheVariants as fields
 use Rattle.task_sheet.specs.declared.refusal.SheetRefusal.TheVariants.{Text, Missing, Kind, Range, Order, Both, Twice, Sum}
 use Rattle.sheet_text.specs.SupplyRows.{promised_rule}
-use Rattle.sheet_text.specs.CurveRows.{curve_rule, periodic}
+use Rattle.curve.specs.Curves.{periodic}
+use Rattle.sheet_text.specs.CurveRows.{curve_rule}
 use Rattle.sheet_text.specs.CutRows.{segmented_rule}
 use Rattle.sheet_text.specs.TaskRows.{name_rule, task_of, tasks_after}
 use Rattle.sheet_text.specs.SheetRows.{sheet_of, sheet_of_text}

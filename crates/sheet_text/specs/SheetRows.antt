@@ -10,7 +10,7 @@ use Rattle.task_sheet.specs.declared.refusal.SheetRefusal.{SheetRefusal}
 use Rattle.task_sheet.specs.declared.refusal.SheetRefusal.TheVariants.{Text, Kind, Range}
 use Rattle.task_sheet.specs.SheetParts.{SheetParts}
 use Rattle.task_sheet.specs.Refusing.{◌>>=◌, holds, present}
-use Rattle.sheet_text.specs.Documents.{document_of, keys_rule, needed_rule, count_of}
+use Rattle.sheet_text.specs.Documents.{document_of, keys_rule, needed_rule, items_count}
 use Rattle.sheet_text.specs.SupplyRows.{supplied_rule}
 use Rattle.sheet_text.specs.TaskRows.{tasks_after}
 
@@ -35,7 +35,7 @@ policy_rule _ = Err (Kind places.Top fields.Policy)
 abbrev pub items_rule : Data → Result Items SheetRefusal
 items_rule (array ds) =
     holds (are_tables ds) (Kind places.Top fields.Task)
-    >>= (λ _. holds (is_between 1 256 (count_of ds)) (Range places.Top fields.Task)
+    >>= (λ _. holds (is_between 1 256 (items_count ds)) (Range places.Top fields.Task)
     >>= (λ _. Ok ds))
 items_rule _ = Err (Kind places.Top fields.Task)
 

@@ -60,7 +60,7 @@ pub fn check_table(value: &Value, place: Place, field: Field) -> Result<(), Shee
 }
 
 /// The value at a key, which has to be there.
-pub fn needed<'a>(
+pub fn needed_value<'a>(
     value: &'a Value,
     key: &str,
     place: Place,

@@ -7,8 +7,8 @@ ghost use Rattle.task_sheet.specs.Sheets.{IsValidSheet};
 ghost use Rattle.sheet_text.specs.Readings.{Gives, seen};
 ghost use Rattle.sheet_text.specs.SheetRows.{policy_named as policy_named_of, policy_rule, items_rule, sheet_of as sheet_of_value, sheet_of_text};
 
-use crate::document::{check_keys, document, needed};
-use crate::promises::supplied;
+use crate::document::{check_keys, document, needed_value};
+use crate::promises::supply_of;
 use crate::tasks::tasks_of;
 use std::alloc::Global;
 use task_sheet::{Field, Place, PolicyKind, Sheet, SheetRefusal};
@@ -49,7 +49,8 @@ fn are_tables(values: &[Value]) -> bool
 
 #[tactic(auto, using(crate::proofs::Counts::counts))]
 fn counted(items: &[Value]) -> Result<&[Value], SheetRefusal>
-    ensures gives { seen (λ v. items_view v.now) result ≡ items_rule (array (items_view items.now)) }
+    ensures gives { seen (λ v. items_view v.now) result ≡
+        items_rule (array (items_view items.now)) }
     ensures few { IfOk result (λ v. length v.now ≤ 256) }
     ensures some { IfOk result (λ v. 1 ≤ length v.now) }
 {
@@ -86,9 +87,9 @@ fn sheet_of(alloc: Global, document: &Value) -> Result<Sheet, SheetRefusal>
 {
     let place = Place::Top;
     check_keys(document, &["policy", "supply", "task"], place)?;
-    let policy = policy_of(needed(document, "policy", place, Field::Policy)?)?;
-    let supply = supplied(alloc, document)?;
-    let items = task_items(needed(document, "task", place, Field::Task)?)?;
+    let policy = policy_of(needed_value(document, "policy", place, Field::Policy)?)?;
+    let supply = supply_of(alloc, document)?;
+    let items = task_items(needed_value(document, "task", place, Field::Task)?)?;
     let tasks = tasks_of(alloc, policy, items)?;
     Ok(Sheet::new(policy, supply, tasks))
 }

@@ -1,6 +1,7 @@
 //! Certificates written by hand.
-use certificate::{Cert, CertRefusal, Entry, LineStep, Lines, read_cert, write_cert};
+use certificate::{Cert, Entry, LineStep, Lines, read_cert, write_cert};
 use lists::Items;
+use poet_io::TextRefusal;
 use std::alloc::{AllocError, Global};
 use std::test::Fail;
 
@@ -91,7 +92,7 @@ fn texts_are_read_and_written(rt: HostRuntime) -> Result<(), Fail> {
 fn malformed_texts_are_refused_at_their_line(rt: HostRuntime) {
     for (bytes, line) in REFUSED {
         let answer = read_cert(rt.alloc(), bytes);
-        assert_eq!(rt; answer, Err(CertRefusal::Text { line }));
+        assert_eq!(rt; answer, Err(TextRefusal::Line(line)));
     }
 }
 

@@ -2,8 +2,8 @@ use Rattle.std.proofs.Common.{◌≡◌, ◌<◌, ◌∙◌, length, arith, sym,
 use Rattle.task_sheet.specs.Sheets.{task_at}
 use Rattle.report.specs.Rows.{missed_of, is_met}
 use Rattle.report.proofs.RowFacts.{one_more_missed, no_more_missed, all_rows}
-use Rattle.report.proofs.rows.missed.Goals as goal
-use Rattle.report.proofs.rows.missed.Goals.{then-late, else-late}
+use Rattle.report.proofs.rows.count_missed.Goals as goal
+use Rattle.report.proofs.rows.count_missed.Goals.{then-late, else-late}
 
 pub loop-i-preserved : goal.loop-i-preserved
 loop-i-preserved c =

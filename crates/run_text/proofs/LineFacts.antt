@@ -285,7 +285,7 @@ job_of-front room j h few =
     let arrival : job_number (decimal j.arrival) ≡ Some j.arrival = job_number-decimal j.arrival h.arrival in
     let cost : job_number (decimal j.cost) ≡ Some j.cost = job_number-decimal j.cost h.cost in
     let segs : segments_from room [] (map decimal j.segs) ≡ Some j.segs = segments_from-decimals room [] j.segs (omega arith) (all_by_recursion IsSegment j.segs h.segs) in
-    ap (job_from room) (job_front-words j h) ∙ rw (task, arrival, cost, segs) refl
+    ap (job_from room) (job_front-words j h) ∙ rw (task, arrival, cost, segs) (ap (λ (r : ℕ). Some (let k : Job = record { task = j.task; arrival = j.arrival; release = r; cost = j.cost; segs = j.segs } in k)) (sym h.released))
 
 -- what was read as segments
 record ReadsSegments (room : ℕ) (done : List ℕ) (ws : List (List ℕ)) (v : List ℕ) : Type 0 where
@@ -344,7 +344,7 @@ job_parts room t r c ws j (Some task) (Some arrival) (Some cost) (Some segs) it 
     let all : All IsSegment segs = all_again IsSegment segs (subst (AllByRecursion IsSegment) (sym read.is) read.all) in
     let found : ReadsJob room (codes "j" ∷ (t ∷ (r ∷ (c ∷ ws)))) (make_job task arrival cost segs) = record {
       words = rw (wt, wa, wc, ws_is) refl;
-      job = record { task = nt.2; arrival = na.2; cost = nc.2; segs = all };
+      job = record { task = nt.2; arrival = na.2; released = refl; cost = nc.2; segs = all };
       few = read.few;
     } in
     subst (ReadsJob room (codes "j" ∷ (t ∷ (r ∷ (c ∷ ws))))) same found

@@ -33,7 +33,7 @@ segments_from room segs (w ∷ ws) = if length segs == room then None else optio
 
 -- the job with these numbers
 abbrev pub make_job : ℕ → ℕ → ℕ → List ℕ → Job
-make_job task arrival cost segs = record { task = task; arrival = arrival; cost = cost; segs = segs }
+make_job task arrival cost segs = record { task = task; arrival = arrival; release = arrival; cost = cost; segs = segs }
 
 -- the job with these numbers and segments, if they are all there
 abbrev pub job_with : Option ℕ → Option ℕ → Option ℕ → Option (List ℕ) → Option Job

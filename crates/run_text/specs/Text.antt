@@ -68,10 +68,11 @@ limit = 1000000000
 abbrev pub IsSegment : ℕ → Type 0
 IsSegment n = n ≤ limit
 
--- a job's numbers are in range
+-- a job's numbers are in range, and it is released at its arrival, since its line says no release
 pub record IsJob (j : Job) : Type 0 where
   pub task : j.task ≤ limit
   pub arrival : j.arrival ≤ limit
+  pub released : j.release ≡ j.arrival
   pub cost : j.cost ≤ limit
   pub segs : All IsSegment j.segs
 

@@ -157,7 +157,7 @@ fn read_job_numbers(task: &[u8], arrival: &[u8], cost: &[u8]) -> Option<(u32, u6
     Some((task as u32, arrival, cost))
 }
 
-/// The job of a line, with at most `room` segments.
+/// The job of a line, with at most `room` segments. It is released at its arrival.
 pub(crate) fn read_job(alloc: Global, line: &[u8], room: u64) -> Result<Option<Job>, AllocError>
     ensures job { IfOk result (λ job. job ≡ job_of room line.now) }
     ensures few { IfOk result (λ job. IfSome job (λ j. length j.segs ≤ room)) }
@@ -187,6 +187,7 @@ pub(crate) fn read_job(alloc: Global, line: &[u8], room: u64) -> Result<Option<J
     Ok(Some(Job {
         task,
         arrival,
+        release: arrival,
         cost,
         segs: Items::new(segs),
     }))

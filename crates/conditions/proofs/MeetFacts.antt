@@ -1,4 +1,4 @@
-use Rattle.std.proofs.Common.{◌≡◌, ℕ, ◌-◌, nat_le, nat_lt, Bool, true, false, Option, Some, None, List, [], ◌∷◌, length, refl, ap}
+use Rattle.std.proofs.Common.{◌≡◌, ℕ, ◌-◌, nat_le, nat_lt, Bool, true, false, Option, Some, None, List, [], ◌∷◌, length, refl, ap, arith}
 use Rattle.std.proofs.lemmas.Bool.{and_parts, and_from, eqb-true, eq-eqb, leb-true, le-leb, ltb-true, lt-ltb}
 use Rattle.lists.proofs.FirstFacts.{must_holds, must_from, first_parts, first_from, none_below, none_from}
 use Rattle.task_sheet.specs.SheetParts.{SheetParts}
@@ -13,6 +13,10 @@ use Rattle.demand.specs.Meeting.{IsWindow, MeetsEnd, MeetsBound, ComesNext, Keep
 use Rattle.conditions.specs.declared.failed.Cond.{Cond}
 use Rattle.conditions.specs.Conditions.{entry_at, is_window, is_in_time, comes_next, ends_within, meets_end, rest_within, gap_failed_of, point_failed_of, points_failed_of, named, task_failed_of, failed_of}
 use Rattle.conditions.specs.Meets.{IsInTime, pairs_of, TaskMeets, CertMeets}
+
+pub pairs_count : (points : List Point) → length (pairs_of points) ≡ length points
+pairs_count [] = refl
+pairs_count (q ∷ points) = omega (arith, pairs_count points)
 
 module _ (p : PolicyMeaning) (m : CutMeaning) (sbf : ℕ → ℕ) (sheet : SheetParts) (i : ℕ) where
   pub gap_means : (before : Option ℕ) (q : ℕ) → gap_failed_of p sheet i before q ≡ None → KeepsGap p sheet i before q

@@ -1,7 +1,7 @@
 -- Every task of a sheet that a seed makes has a small window.
 use Rattle.std.proofs.Common.{◌≡◌, ℕ, zero, suc, ◌+◌, ◌-◌, ◌*◌, ◌/◌, ◌<◌, ◌≤◌, ◌==◌, ◌&&◌, Bool, true, false, not, cond, refl, inl, inr, arith}
-use Rattle.std.specs.Prelude.{nat_le, nat_lt}
-use Rattle.std.proofs.lemmas.Bool.{and_parts, and_from, leb-true, le-leb, cases_lt}
+use Rattle.std.specs.Prelude.{nat_lt}
+use Rattle.std.proofs.lemmas.Bool.{cases_lt}
 use Rattle.std.proofs.Math.Nat.{mul-div-le}
 use Rattle.lists.specs.Sums.{sum_below, max_below}
 use Rattle.lists.specs.Searches.{IsLeast}
@@ -14,6 +14,7 @@ use Rattle.preemption.specs.Kinds.{per_task_meaning}
 use Rattle.demand.specs.Demand.{delay_of, class_part_of, window_need_of}
 use Rattle.demand.specs.Meeting.{IsWindow}
 use Rattle.conditions.specs.Conditions.{is_window}
+use Rattle.conditions.proofs.MeetFacts.{window_means, window_true}
 use Rattle.exercise.specs.GeneratedSheet.{cost_of, generated_sheet}
 use Rattle.exercise.proofs.WordFacts.{cost_low, cost_high, scale_high}
 use Rattle.exercise.proofs.SheetFacts.{sheet_count}
@@ -68,28 +69,19 @@ pub record HasWindow (seed n i : ℕ) : Type 0 where
   pub small : window ≤ 6400
   pub least : IsLeast (IsWindow edf_meaning per_task_meaning (λ d. d) (generated_sheet seed n) i) window
 
-module _ (sheet : SheetParts) (i : ℕ) where
-  tells : (l : ℕ) → is_window edf_meaning per_task_meaning (λ d. d) sheet i l ≡ true → IsWindow edf_meaning per_task_meaning (λ d. d) sheet i l
-  tells l h =
-      let parts = and_parts (nat_le 1 l) (nat_le (window_need_of edf_meaning per_task_meaning sheet i l) l) h in
-      record { positive = leb-true _ _ parts.0; enough = leb-true _ _ parts.1 }
-
-  told : (l : ℕ) → IsWindow edf_meaning per_task_meaning (λ d. d) sheet i l → is_window edf_meaning per_task_meaning (λ d. d) sheet i l ≡ true
-  told l w = and_from (nat_le 1 l) (nat_le (window_need_of edf_meaning per_task_meaning sheet i l) l) (le-leb _ _ w.positive) (le-leb _ _ w.enough)
-
 pub has_window : (seed n i : ℕ) → i < n → n ≤ 64 → HasWindow seed n i
 has_window seed n i b few =
     let sheet : SheetParts = generated_sheet seed n in
     let l : ℕ = 2 * costs_of seed n in
     let fits : IsWindow edf_meaning per_task_meaning (λ d. d) sheet i l = record { positive = omega (arith, costs_low seed n); enough = need_fits seed n i b } in
-    let found = least_true (is_window edf_meaning per_task_meaning (λ d. d) sheet i) l (told sheet i l fits) in
+    let found = least_true (is_window edf_meaning per_task_meaning (λ d. d) sheet i) l (window_true edf_meaning per_task_meaning (λ d. d) sheet i l fits) in
     record {
       window = found.0;
       small = omega (arith, found.1, costs_high seed n);
       least = record {
-        holds = tells sheet i found.0 found.2;
+        holds = window_means edf_meaning per_task_meaning (λ d. d) sheet i found.0 found.2;
         least = λ k w. elim (cases_lt k found.0) [
-          | inl c ↦ let f = found.3 k c in let t = told sheet i k w in absurd (cc)
+          | inl c ↦ let f = found.3 k c in let t = window_true edf_meaning per_task_meaning (λ d. d) sheet i k w in absurd (cc)
           | inr c ↦ c
         ];
       };

@@ -1,7 +1,6 @@
 -- What is least serves: the best entry against any that meets the conditions, and against its window.
 use Rattle.std.proofs.Common.{◌≡◌, ℕ, ◌+◌, ◌-◌, ◌<◌, ◌≤◌, Bool, Option, Some, None, List, [], ◌∷◌, length, ap, arith}
 use Rattle.std.specs.List.{AllByRecursion}
-use Rattle.std.proofs.lemmas.List.{length-map}
 use Rattle.lists.specs.Searches.{IsLeast}
 use Rattle.task_sheet.specs.SheetParts.{SheetParts}
 use Rattle.task_sheet.specs.Sheets.{task_at}
@@ -12,6 +11,7 @@ use Rattle.certificate.specs.declared.cert.Point.{Point}
 use Rattle.demand.specs.Meeting.{IsWindow, MeetsEnd, MeetsBound, BoundMeets, MeetsAt, PointsMeet, EveryOffset}
 use Rattle.demand.proofs.MeetingFacts.{Reaches, from_reach, every_offset}
 use Rattle.conditions.specs.Meets.{pairs_of, TaskMeets}
+use Rattle.conditions.proofs.MeetFacts.{pairs_count}
 use Rattle.solver.specs.Laws.{Laws}
 use Rattle.solver.specs.Best.{IsBestEntry, MeetsEach}
 use Rattle.solver.proofs.LawFacts.{grows}
@@ -42,7 +42,7 @@ module _ (p : PolicyMeaning) (m : CutMeaning) (sbf : ℕ → ℕ) (sheet : Sheet
   bound_least best other deadlines b some t =
       let le = window_least best other deadlines b t in
       let own = entry_meets p m sbf sheet i best b in
-      let serves = every_offset p m sbf sheet i laws.rises (λ from a to x l lt same. laws.across_gap i from to a x in_range l lt same) other.window other.bound (pairs_of other.points) (omega (arith, some, length-map other.points (λ (q : Point). (q.offset, q.end)))) t.points in
+      let serves = every_offset p m sbf sheet i laws.rises (λ from a to x l lt same. laws.across_gap i from to a x in_range l lt same) other.window other.bound (pairs_of other.points) (omega (arith, some, pairs_count other.points)) t.points in
       let below = below_each best.window best.bound None best.points own.points in
       b.bound.least other.bound (record { covers = t.covers; each = each_serves other.bound best.window best.points (λ a lt. serves a (omega (arith, le))) b.ends below })
 

@@ -11,7 +11,7 @@ use Rattle.exercise.proofs.running.exercise.Goals as goal
 
 pub unreachable-requires : goal.unreachable-requires
 unreachable-requires c =
-    never_refused c.args.seed c.args.tasks c.in_ok-sheet.sheet (NoBound c.in-Err-NoBound.field-0-0) c.in_ok-sheet.ensures
+    never_refused c.args.seed c.args.tasks c.in_ok-sheet.sheet (NoBound c.in-Err-NoBound.field-0-0 c.in-Err-NoBound.field-0-1) c.in_ok-sheet.ensures
     (c.exercise_succeeds.ensures c.args.seed c.args.tasks c.requires.some c.requires.few)
     (rw c.in-Err-NoBound.field-0-is at c.in-Err-NoBound.ensures.exact)
 

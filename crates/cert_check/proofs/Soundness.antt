@@ -3,15 +3,17 @@ use Rattle.std.proofs.lemmas.List.{get_or-map, length-map}
 use Rattle.std.proofs.lemmas.List.Elements.{All-get_or}
 use Rattle.certificate.specs.declared.cert.Cert.{Cert}
 use Rattle.certificate.specs.declared.cert.Entry.{Entry}
-use Rattle.certificate.specs.declared.refusal.CertRefusal.{CertRefusal}
-use Rattle.certificate.specs.declared.refusal.CertRefusal.TheVariants as refusal
-use Rattle.certificate.specs.Text.{IsWithinGrammar, IsEntry, text_of}
-use Rattle.certificate.specs.Reading.{IsReading}
+use Rattle.poet_io.specs.declared.text_refusal.TextRefusal.{TextRefusal}
+use Rattle.poet_io.specs.declared.text_refusal.TextRefusal.TheVariants.{Line, Memory}
+use Rattle.poet_io.specs.Texts.{IsReading, HaveOneReading}
+use Rattle.poet_io.proofs.TextFacts.{reading_is}
+use Rattle.certificate.specs.Text.{IsWithinGrammar, IsEntry, text_of, cert_format}
 use Rattle.certificate.specs.Parsing.{cert_of_text}
 use Rattle.conditions.specs.declared.failed.Failed.{Failed}
 use Rattle.abstract_rta.specs.Bounds.{PointsBound}
 use Rattle.conditions.specs.Conditions.{entry_at, no_entry, failed_of}
-use Rattle.conditions.specs.Meets.{IsInTime, CertMeets, FailedMeans}
+use Rattle.conditions.specs.Meets.{IsInTime, pairs_of, CertMeets, FailedMeans}
+use Rattle.conditions.proofs.MeetFacts.{pairs_count}
 use Rattle.policy.specs.PolicyMeaning.{PolicyMeaning}
 use Rattle.preemption.specs.CutMeaning.{CutMeaning}
 use Rattle.preemption.specs.CutLaws.{Serves}
@@ -44,7 +46,9 @@ module _ (p : PolicyMeaning) (m : CutMeaning) (sbf : ℕ → ℕ) (sheet : Sheet
       let holds : (i : ℕ) → i < length sheet.tasks → IsBounded p m sbf sheet i (entry_at cert i).bound = λ i lt.
       let fits : IsEntry (entry_at cert i) = All-get_or IsEntry cert.entries i no_entry (omega (arith, meets.count)) within.entries in
       let task = meets.tasks i lt in
-      law sheet valid served i (entry_at cert i).window (entry_at cert i).bound (entry_at cert i).points lt task.window fits.some task.points
+      let e : Entry = entry_at cert i in
+      let some : 1 ≤ length (pairs_of e.points) = omega (arith, fits.some, pairs_count e.points) in
+      law sheet valid served i e.window e.bound (pairs_of e.points) lt task.covers task.window some task.points
       in
       record {
         count = simp length-map meets.count;
@@ -55,10 +59,10 @@ module _ (p : PolicyMeaning) (m : CutMeaning) (sbf : ℕ → ℕ) (sheet : Sheet
       }
 
 module _ (p : PolicyMeaning) (m : CutMeaning) (sbf : ℕ → ℕ) where
-  pub accepts : ((b : List ℕ) → IsReading b (cert_of_text b)) → ((b : List ℕ) (r s : Result Cert CertRefusal) → IsReading b r → IsReading b s → r ≡ s) → MeetingIsAccepted p m sbf
+  pub accepts : HaveOneReading cert_format cert_of_text → MeetingIsAccepted p m sbf
   unfolding verdict_of
-  accepts exists single sheet deadlines cert within none =
-      let reads : cert_of_text (text_of cert) ≡ Ok cert = single (text_of cert) (cert_of_text (text_of cert)) (Ok cert) (exists (text_of cert)) (record { within = within; text = refl }) in
+  accepts one sheet deadlines cert within none =
+      let reads : cert_of_text (text_of cert) ≡ Ok cert = reading_is cert_format cert_of_text one (text_of cert) (Ok cert) (record { within = within; text = refl }) in
       rw (reads, none) refl
 
   module _ (law : PointsBound p m sbf) (means : FailedMeans p m sbf) (sheet : SheetParts) (valid : IsValidSheet sheet) (served : Serves m sheet) (deadlines : Bool) where
@@ -66,12 +70,12 @@ module _ (p : PolicyMeaning) (m : CutMeaning) (sbf : ℕ → ℕ) where
     judged_holds cert within None none = sound p m sbf sheet deadlines cert law means valid served within none
     judged_holds cert within (Some failed) e = tt
 
-    read_holds : (bytes : List ℕ) (r : Result Cert CertRefusal) → IsReading bytes r → IsBoundedBy p m sbf sheet deadlines (verdict_by (failed_of p m sbf sheet deadlines) r)
+    read_holds : (bytes : List ℕ) (r : Result Cert TextRefusal) → IsReading cert_format bytes r → IsBoundedBy p m sbf sheet deadlines (verdict_by (failed_of p m sbf sheet deadlines) r)
     read_holds bytes (Ok cert) parses = judged_holds cert parses.within (failed_of p m sbf sheet deadlines cert) refl
-    read_holds bytes (Err (refusal.Text line)) r = tt
-    read_holds bytes (Err refusal.Memory) r = tt
+    read_holds bytes (Err (Line line)) r = tt
+    read_holds bytes (Err Memory) r = tt
 
-  pub holds : PointsBound p m sbf → FailedMeans p m sbf → ((b : List ℕ) → IsReading b (cert_of_text b)) → AcceptedIsSound p m sbf
+  pub holds : PointsBound p m sbf → FailedMeans p m sbf → HaveOneReading cert_format cert_of_text → AcceptedIsSound p m sbf
   unfolding verdict_of
-  holds law means exists sheet valid served deadlines bytes bounds e =
-      subst (IsBoundedBy p m sbf sheet deadlines) e (read_holds law means sheet valid served deadlines bytes (cert_of_text bytes) (exists bytes))
+  holds law means one sheet valid served deadlines bytes bounds e =
+      subst (IsBoundedBy p m sbf sheet deadlines) e (read_holds law means sheet valid served deadlines bytes (cert_of_text bytes) (one.exists bytes))

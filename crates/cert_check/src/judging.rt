@@ -6,9 +6,10 @@ ghost use Rattle.conditions.specs.Conditions.{failed_of};
 ghost use Rattle.cert_check.specs.Verdicts.{bounds_of, verdict_of, AreSound, IsVerdict, IsBoundedBy};
 
 use abstract_rta::points_bound;
-use certificate::{Cert, CertRefusal, read_cert};
+use certificate::{Cert, read_cert};
 use conditions::{Failed, failed_means, first_failed};
 use lists::Items;
+use poet_io::TextRefusal;
 use policy::Policy;
 use preemption::Preemption;
 use std::alloc::{AllocError, Global};
@@ -83,8 +84,8 @@ pub fn check_cert<P: Policy, M: Preemption, S: Supply>(
 {
     let cert = match read_cert(alloc, bytes) {
         Ok(cert) => cert,
-        Err(CertRefusal::Text { line }) => return Ok(Verdict::Text { line }),
-        Err(CertRefusal::Memory) => return Err(AllocError),
+        Err(TextRefusal::Line(line)) => return Ok(Verdict::Text { line }),
+        Err(TextRefusal::Memory) => return Err(AllocError),
     };
     if let Some(failed) = judge_cert::<P, M, S>(sheet, supply, &cert, deadlines) {
         return Ok(Verdict::Refused(failed));

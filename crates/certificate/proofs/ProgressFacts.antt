@@ -4,14 +4,14 @@ use Rattle.std.specs.Char.{is_ascii_digit}
 use Rattle.std.proofs.lemmas.Bool.{cases_Bool}
 use Rattle.std.proofs.lemmas.List.{append-nil}
 use Rattle.std.proofs.lemmas.Bool.Decides.{nat_tests}
-use Rattle.certificate.specs.Text.{text_of, Parses}
-use Rattle.poet_io.specs.RefusedLines.{IsRefusedLine, newlines}
-use Rattle.certificate.specs.Reading.{BeginsText}
+use Rattle.poet_io.specs.Texts.{Parses, BeginsText, IsRefusedLine, newlines}
+use Rattle.poet_io.proofs.TextFacts.{begins_front}
+use Rattle.certificate.specs.Text.{text_of, cert_format}
 use Rattle.certificate.specs.Steps.{steps_of}
 use Rattle.certificate.specs.Progress.{Progress}
 use Rattle.certificate.specs.declared.cert.Cert.{Cert}
 use Rattle.certificate.proofs.FieldFacts.{eq_from_test}
-use Rattle.certificate.specs.Machine.{word_text, after_word, least, greatest, ender, at_place, after_point, after_number, StandsFor, after_byte, after_bytes, beginning, is_good_at, is_over_at, IsProgress, word_step, next, start, IsPlace, bad, walk}
+use Rattle.certificate.specs.Machine.{word_text, after_word, least, greatest, ender, at_place, after_point, after_number, StandsFor, after_byte, after_bytes, beginning, is_good_at, is_over_at, IsProgress, word_step, next_place, start, IsPlace, bad, walk}
 use Rattle.certificate.specs.declared.place.Word.{Word}
 use Rattle.certificate.specs.declared.place.Word.TheVariants as word
 use Rattle.certificate.specs.declared.place.Field.{Field}
@@ -40,7 +40,7 @@ stands_next l b x h = record { is = ap (λ (v : Progress). after_byte v x) h.is 
 -- what is said so far does not matter for the place
 place_of : (ss : List LineStep) (l : Progress) (b : List ℕ) → (after_bytes l b).place ≡ (walk ss l.place b).1
 place_of ss l [] = refl
-place_of ss l (x ∷ b) = place_of (cond (x == 10) (ss ++ (next l.place x).1 ∷ []) ss) (after_byte l x) b
+place_of ss l (x ∷ b) = place_of (cond (x == 10) (ss ++ (next_place l.place x).1 ∷ []) ss) (after_byte l x) b
 
 lines_all : (l : Progress) (b : List ℕ) → IsProgress l.place l.line → IsProgress (after_bytes l b).place (after_bytes l b).line
 lines_all l [] h = h
@@ -49,52 +49,52 @@ lines_all l (x ∷ b) h = lines_all (after_byte l x) b (lines_next l.place x l.l
 right_all : (b : List ℕ) → IsPlace (after_bytes beginning b).place
 right_all b = (lines_all beginning b start_right).right
 
-nothing_next : (e : Expected) (i m k x : ℕ) → e ≡ Nothing → (next (at_place e i m k) x).0.expected ≡ Nothing
+nothing_next : (e : Expected) (i m k x : ℕ) → e ≡ Nothing → (next_place (at_place e i m k) x).0.expected ≡ Nothing
 nothing_next e i m k x h = rw h refl
 
 nothing_stays : (ss : List LineStep) (p : Place) (t : List ℕ) → p.expected ≡ Nothing → (walk ss p t).1.expected ≡ Nothing
 nothing_stays ss p [] h = h
-nothing_stays ss p (x ∷ t) h = nothing_stays (cond (x == 10) (ss ++ (next p x).1 ∷ []) ss) (next p x).0 t (nothing_next p.expected p.task p.after p.points x h)
+nothing_stays ss p (x ∷ t) h = nothing_stays (cond (x == 10) (ss ++ (next_place p x).1 ∷ []) ss) (next_place p x).0 t (nothing_next p.expected p.task p.after p.points x h)
 
 left_all : (l : Progress) (b t : List ℕ) → IsProgress l.place l.line → Left (after_bytes l b).place t → Left l.place (b ++ t)
 left_all l [] t right h = h
 left_all l (x ∷ b) t right h = back l.place x (b ++ t) right.right (left_all (after_byte l x) b t (lines_next l.place x l.line right) h)
 
 -- certificates begin so exactly where the place is good
-pub good_from_begins : (b : List ℕ) → BeginsText b → (after_bytes beginning b).place.expected ≡ Nothing → ⊥
+pub good_from_begins : (b : List ℕ) → BeginsText cert_format b → (after_bytes beginning b).place.expected ≡ Nothing → ⊥
 good_from_begins b h not_so =
-    let over = ap (λ (r : List LineStep × Place). r.1.expected) (text_walk h.cert h.parses.within) in
+    let over = ap (λ (r : List LineStep × Place). r.1.expected) (text_walk h.value h.parses.within) in
     let whole = walk-append [] start b h.more in
     let r = walk [] start b in
     let bad : r.1.expected ≡ Nothing = ap (λ (p : Place). p.expected) (sym (place_of [] beginning b)) ∙ not_so in
     let stays = nothing_stays r.0 r.1 h.more bad in
-    let one : (walk [] start (text_of h.cert)).1.expected ≡ Nothing = ap (λ (t : List ℕ). (walk [] start t).1.expected) (sym h.parses.text) ∙ ap (λ (r : List LineStep × Place). r.1.expected) whole ∙ stays in
+    let one : (walk [] start (text_of h.value)).1.expected ≡ Nothing = ap (λ (t : List ℕ). (walk [] start t).1.expected) (sym h.parses.text) ∙ ap (λ (r : List LineStep × Place). r.1.expected) whole ∙ stays in
     absurd (cc)
 
-pub begins_from_good : (b : List ℕ) → ((after_bytes beginning b).place.expected ≡ Nothing → ⊥) → BeginsText b
+pub begins_from_good : (b : List ℕ) → ((after_bytes beginning b).place.expected ≡ Nothing → ⊥) → BeginsText cert_format b
 begins_from_good b good =
     let s = some_left (after_bytes beginning b).place (right_all b) good in
     let t = text_of_left (b ++ s.text) (left_all beginning b s.text start_right s.holds) in
-    record { cert = t.0; more = s.text; parses = t.1 }
+    record { value = t.0; more = s.text; parses = t.1 }
 
 -- and they end so exactly where it is over
 left_over : (e : Expected) (i m k : ℕ) → e ≡ Over → LeftAt e i m k []
 left_over e i m k h = rw h refl
 
-pub parses_from_over : (b : List ℕ) → (after_bytes beginning b).place.expected ≡ Over → (c : Cert) × Parses b c
+pub parses_from_over : (b : List ℕ) → (after_bytes beginning b).place.expected ≡ Over → (c : Cert) × Parses cert_format b c
 parses_from_over b over =
     let here : Left (after_bytes beginning b).place [] = (let p = (after_bytes beginning b).place in left_over p.expected p.task p.after p.points over) in
     rw append-nil at (text_of_left (b ++ []) (left_all beginning b [] start_right here))
 
-pub over_from_parses : (b : List ℕ) (c : Cert) → Parses b c → (after_bytes beginning b).place.expected ≡ Over
+pub over_from_parses : (b : List ℕ) (c : Cert) → Parses cert_format b c → (after_bytes beginning b).place.expected ≡ Over
 over_from_parses b c h = ap (λ (p : Place). p.expected) (place_of [] beginning b) ∙ ap (λ (t : List ℕ). (walk [] start t).1.expected) h.text ∙ ap (λ (r : List LineStep × Place). r.1.expected) (text_walk c h.within)
 
 -- what the lines say
 said_front : (ss : List LineStep) (p : Place) (t : List ℕ) → (walk ss p t).0 ≡ ss ++ (walk [] p t).0
 said_front ss p [] = sym (append-nil ss)
 said_front ss p (x ∷ t) =
-    let s = (next p x).1 in
-    let q = (next p x).0 in
+    let s = (next_place p x).1 in
+    let q = (next_place p x).0 in
     let first = λ (w : Bool) (e : x == 10 ≡ w). ap (λ (w : Bool). (walk (cond w (ss ++ s ∷ []) ss) q t).0) e in
     let again = λ (w : Bool) (e : x == 10 ≡ w). ap (λ (w : Bool). ss ++ (walk (cond w (s ∷ []) []) q t).0) (sym e) in
     elim (cases_Bool (x == 10)) [
@@ -108,8 +108,8 @@ newlines_push b x = sum_by_push (λ y. cond (y == 10) 1 0) b x
 pub said_count : (done b : List ℕ) (ss : List LineStep) (p : Place) → length ss ≡ newlines done → length (walk ss p b).0 ≡ newlines (done ++ b)
 said_count done [] ss p h = h ∙ ap newlines (sym (append-nil done))
 said_count done (x ∷ b) ss p h =
-    let s = (next p x).1 in
-    let q = (next p x).0 in
+    let s = (next_place p x).1 in
+    let q = (next_place p x).0 in
     let first = λ (w : Bool) (e : x == 10 ≡ w). ap (λ (w : Bool). length (walk (cond w (ss ++ s ∷ []) ss) q b).0) e in
     elim (cases_Bool (x == 10)) [
       | inl is_ten ↦ first true is_ten ∙ said_count (done ++ x ∷ []) b (ss ++ s ∷ []) q (omega (arith, length_push ss s, newlines_push done x, ap (λ (w : Bool). cond {A = ℕ} w 1 0) is_ten)) ∙ ap newlines (append_assoc done (x ∷ []) b)
@@ -133,7 +133,7 @@ quiet_word word.End i at x not_so here last =
     let ten : 10 ≡ x = subst (λ (w : ℕ). slice_index (codes "end\n") w ≡ x) three here in
     absurd (grind (arith, nat_tests))
 
-quiet_at : (e : Expected) (i m k x : ℕ) → (x == 10) ≡ false → ((next (at_place e i m k) x).0.expected ≡ Nothing → ⊥) → (next (at_place e i m k) x).1 ≡ says.More
+quiet_at : (e : Expected) (i m k x : ℕ) → (x == 10) ≡ false → ((next_place (at_place e i m k) x).0.expected ≡ Nothing → ⊥) → (next_place (at_place e i m k) x).1 ≡ says.More
 quiet_at (Rest w at) i m k x not_so = elim (cases_Bool (slice_index (word_text w i) at == x)) [
   | inl here ↦ elim (cases_Bool (at + 1 == length (word_text w i))) [
     | inl last ↦ rw (here, last) (λ good. quiet_word w i at x not_so (eq_from_test (slice_index (word_text w i) at) x here) (eq_from_test (at + 1) (length (word_text w i)) last))
@@ -155,16 +155,16 @@ quiet_at (Digits f v) i m k x not_so = elim (cases_Bool (x == ender f)) [
 quiet_at Over i m k x not_so = λ good. absurd (good refl)
 quiet_at Nothing i m k x not_so = λ good. absurd (good refl)
 
-pub says_is : (b more : List ℕ) (x : ℕ) (c : Cert) → Parses (b ++ x ∷ more) c →
-    (next (after_bytes beginning b).place x).1 ≡ cond (x == 10) (slice_index_or (steps_of c) (newlines b) says.More) says.More
+pub says_is : (b more : List ℕ) (x : ℕ) (c : Cert) → Parses cert_format (b ++ x ∷ more) c →
+    (next_place (after_bytes beginning b).place x).1 ≡ cond (x == 10) (slice_index_or (steps_of c) (newlines b) says.More) says.More
 says_is b more x c h =
     let r = walk [] start b in
     let place : (after_bytes beginning b).place ≡ r.1 = place_of [] beginning b in
     let all : walk r.0 r.1 (x ∷ more) ≡ (steps_of c, at_place Over 0 0 0) = sym (walk-append [] start b (x ∷ more)) ∙ ap (λ (t : List ℕ). walk [] start t) h.text ∙ text_walk c h.within in
     let count : length r.0 ≡ newlines b = said_count [] b [] start refl in
-    let s = (next r.1 x).1 in
-    let q = (next r.1 x).0 in
-    let good : ((next r.1 x).0.expected ≡ Nothing → ⊥) = λ nothing.
+    let s = (next_place r.1 x).1 in
+    let q = (next_place r.1 x).0 in
+    let good : ((next_place r.1 x).0.expected ≡ Nothing → ⊥) = λ nothing.
     let stays = nothing_stays (cond (x == 10) (r.0 ++ s ∷ []) r.0) q more nothing in
     let over = ap (λ (y : List LineStep × Place). y.1.expected) all in
     absurd (cc) in
@@ -207,7 +207,7 @@ tells_word word.Task i m k = tells_good _ _ (λ h. cc) (λ h. cc)
 tells_word word.Point i m k = tells_good _ _ (λ h. cc) (λ h. cc)
 tells_word word.End i m k = tells_good _ _ (λ h. cc) (λ h. cc)
 
-tells_at : (e : Expected) (i m k x : ℕ) → Tells (next (at_place e i m k) x)
+tells_at : (e : Expected) (i m k x : ℕ) → Tells (next_place (at_place e i m k) x)
 tells_at (Rest w at) i m k x = elim (cases_Bool (slice_index (word_text w i) at == x)) [
   | inl here ↦ elim (cases_Bool (at + 1 == length (word_text w i))) [
     | inl last ↦ rw (here, last) (tells_word w i m k)
@@ -236,13 +236,13 @@ nothing_or_good (Digits f v) = inr (λ h. cc)
 nothing_or_good Over = inr (λ h. cc)
 nothing_or_good Nothing = inl refl
 
-pub bad_is : (b : List ℕ) (x : ℕ) → ((next (after_bytes beginning b).place x).1 ≡ says.Bad) ↔ (BeginsText (b ++ x ∷ []) → ⊥)
+pub bad_is : (b : List ℕ) (x : ℕ) → ((next_place (after_bytes beginning b).place x).1 ≡ says.Bad) ↔ (BeginsText cert_format (b ++ x ∷ []) → ⊥)
 bad_is b x =
     let p = (after_bytes beginning b).place in
     let tells = tells_at p.expected p.task p.after p.points x in
-    let same : (after_bytes beginning (b ++ x ∷ [])).place ≡ (next p x).0 = ap (λ (l : Progress). l.place) (after_bytes-append beginning b (x ∷ [])) in (
+    let same : (after_bytes beginning (b ++ x ∷ [])).place ≡ (next_place p x).0 = ap (λ (l : Progress). l.place) (after_bytes-append beginning b (x ∷ [])) in (
       λ h begins. good_from_begins (b ++ x ∷ []) begins (ap (λ (q : Place). q.expected) same ∙ tells.to h),
-      λ h. elim (nothing_or_good (next p x).0.expected) [
+      λ h. elim (nothing_or_good (next_place p x).0.expected) [
         | inl nothing ↦ tells.from nothing
         | inr good ↦ absurd (h (begins_from_good (b ++ x ∷ []) (λ nothing. good (sym (ap (λ (q : Place). q.expected) same) ∙ nothing))))
       ],
@@ -256,9 +256,6 @@ good_test (Digits f v) h = refl
 good_test Over h = refl
 good_test Nothing h = absurd (h refl)
 
-begins_front : (b more : List ℕ) → BeginsText (b ++ more) → BeginsText b
-begins_front b more h = record { cert = h.cert; more = more ++ h.more; parses = subst (λ (t : List ℕ). Parses t h.cert) (append_assoc b more h.more) h.parses }
-
 last_or_none : (l : List ℕ) → (l ≡ []) ⊎ ((front : List ℕ) × (y : ℕ) × (l ≡ front ++ y ∷ []))
 last_or_none [] = inl refl
 last_or_none (x ∷ l) = elim (last_or_none l) [
@@ -266,9 +263,9 @@ last_or_none (x ∷ l) = elim (last_or_none l) [
   | inr f ↦ inr (x ∷ f.0, f.1, ap (λ (t : List ℕ). x ∷ t) f.2)
 ]
 
-refused_good : (b : List ℕ) (x n : ℕ) → BeginsText (b ++ x ∷ []) → IsRefusedLine BeginsText b n → IsRefusedLine BeginsText (b ++ x ∷ []) (cond (x == 10 && true) (n + 1) n)
+refused_good : (b : List ℕ) (x n : ℕ) → BeginsText cert_format (b ++ x ∷ []) → IsRefusedLine cert_format b n → IsRefusedLine cert_format (b ++ x ∷ []) (cond (x == 10 && true) (n + 1) n)
 refused_good b x n begins h =
-    let long = h.longest b [] (sym (append-nil b)) (begins_front b (x ∷ []) begins) in
+    let long = h.longest b [] (sym (append-nil b)) (begins_front cert_format b (x ∷ []) begins) in
     let empty : h.rest ≡ [] = nil_from_length h.rest (omega (arith, ap length h.whole, length-append h.front h.rest)) in
     let same : b ≡ h.front = h.whole ∙ ap (λ (t : List ℕ). h.front ++ t) empty ∙ append-nil h.front in
     let count : n ≡ 1 + newlines b = h.line ∙ ap (λ (t : List ℕ). 1 + newlines t) (sym same) in
@@ -284,14 +281,14 @@ refused_good b x n begins h =
       ];
     }
 
-refused_bad : (b : List ℕ) (x n : ℕ) → (BeginsText (b ++ x ∷ []) → ⊥) → IsRefusedLine BeginsText b n → IsRefusedLine BeginsText (b ++ x ∷ []) n
+refused_bad : (b : List ℕ) (x n : ℕ) → (BeginsText cert_format (b ++ x ∷ []) → ⊥) → IsRefusedLine cert_format b n → IsRefusedLine cert_format (b ++ x ∷ []) n
 refused_bad b x n bad h = record {
   front = h.front;
   rest = h.rest ++ x ∷ [];
   whole = ap (λ (t : List ℕ). t ++ x ∷ []) h.whole ∙ append_assoc h.front h.rest (x ∷ []);
   begins = h.begins;
   longest = λ longer more e begins. elim (last_or_none more) [
-    | inl none ↦ absurd (bad (subst BeginsText (sym (e ∙ ap (λ (t : List ℕ). longer ++ t) none ∙ append-nil longer)) begins))
+    | inl none ↦ absurd (bad (subst (BeginsText cert_format) (sym (e ∙ ap (λ (t : List ℕ). longer ++ t) none ∙ append-nil longer)) begins))
     | inr f ↦ h.longest longer f.0 ((same_from_push b (longer ++ f.0) x f.1 (e ∙ ap (λ (t : List ℕ). longer ++ t) f.2 ∙ sym (append_assoc longer f.0 (f.1 ∷ [])))).0) begins
   ];
   line = h.line;
@@ -301,32 +298,32 @@ and_false : (x : Bool) → (x && false) ≡ false
 and_false true = refl
 and_false false = refl
 
-refused_next : (b : List ℕ) (x : ℕ) → IsRefusedLine BeginsText b (after_bytes beginning b).line → IsRefusedLine BeginsText (b ++ x ∷ []) (after_bytes beginning (b ++ x ∷ [])).line
+refused_next : (b : List ℕ) (x : ℕ) → IsRefusedLine cert_format b (after_bytes beginning b).line → IsRefusedLine cert_format (b ++ x ∷ []) (after_bytes beginning (b ++ x ∷ [])).line
 refused_next b x h =
     let l = after_bytes beginning b in
-    let q = (next l.place x).0 in
+    let q = (next_place l.place x).0 in
     let same : (after_bytes beginning (b ++ x ∷ [])).line ≡ cond (x == 10 && is_good_at q.expected) (l.line + 1) l.line = ap (λ (v : Progress). v.line) (after_bytes-append beginning b (x ∷ [])) in
     let place : (after_bytes beginning (b ++ x ∷ [])).place.expected ≡ q.expected = ap (λ (v : Progress). v.place.expected) (after_bytes-append beginning b (x ∷ [])) in
     elim (nothing_or_good q.expected) [
-      | inl nothing ↦ subst (IsRefusedLine BeginsText (b ++ x ∷ [])) (sym (same ∙ rw (nothing, and_false (x == 10)) refl)) (refused_bad b x l.line (λ begins. good_from_begins (b ++ x ∷ []) begins (place ∙ nothing)) h)
-      | inr good ↦ subst (IsRefusedLine BeginsText (b ++ x ∷ [])) (sym (same ∙ ap (λ (g : Bool). cond (x == 10 && g) (l.line + 1) l.line) (good_test q.expected good)))
+      | inl nothing ↦ subst (IsRefusedLine cert_format (b ++ x ∷ [])) (sym (same ∙ rw (nothing, and_false (x == 10)) refl)) (refused_bad b x l.line (λ begins. good_from_begins (b ++ x ∷ []) begins (place ∙ nothing)) h)
+      | inr good ↦ subst (IsRefusedLine cert_format (b ++ x ∷ [])) (sym (same ∙ ap (λ (g : Bool). cond (x == 10 && g) (l.line + 1) l.line) (good_test q.expected good)))
           (refused_good b x l.line (begins_from_good (b ++ x ∷ []) (λ nothing. good (sym place ∙ nothing))) h)
     ]
 
-refused_from : (done b : List ℕ) → IsRefusedLine BeginsText done (after_bytes beginning done).line → IsRefusedLine BeginsText (done ++ b) (after_bytes beginning (done ++ b)).line
-refused_from done [] h = subst (λ (t : List ℕ). IsRefusedLine BeginsText t (after_bytes beginning t).line) (sym (append-nil done)) h
-refused_from done (x ∷ b) h = subst (λ (t : List ℕ). IsRefusedLine BeginsText t (after_bytes beginning t).line) (append_assoc done (x ∷ []) b) (refused_from (done ++ x ∷ []) b (refused_next done x h))
+refused_from : (done b : List ℕ) → IsRefusedLine cert_format done (after_bytes beginning done).line → IsRefusedLine cert_format (done ++ b) (after_bytes beginning (done ++ b)).line
+refused_from done [] h = subst (λ (t : List ℕ). IsRefusedLine cert_format t (after_bytes beginning t).line) (sym (append-nil done)) h
+refused_from done (x ∷ b) h = subst (λ (t : List ℕ). IsRefusedLine cert_format t (after_bytes beginning t).line) (append_assoc done (x ∷ []) b) (refused_from (done ++ x ∷ []) b (refused_next done x h))
 
-pub line_is : (b : List ℕ) → IsRefusedLine BeginsText b (after_bytes beginning b).line
+pub line_is : (b : List ℕ) → IsRefusedLine cert_format b (after_bytes beginning b).line
 line_is b = refused_from [] b (record { front = []; rest = []; whole = refl; begins = begins_from_good [] (λ h. cc); longest = λ longer more e _. omega (arith, ap length e, length-append longer more); line = refl })
 
 -- the same, of a value that stands for the bytes
-pub bad_stands : (l : Progress) (b : List ℕ) (x : ℕ) → StandsFor l b → ((next l.place x).1 ≡ says.Bad) ↔ (BeginsText (b ++ x ∷ []) → ⊥)
-bad_stands l b x h = subst (λ (v : Progress). ((next v.place x).1 ≡ says.Bad) ↔ (BeginsText (b ++ x ∷ []) → ⊥)) (sym h.is) (bad_is b x)
+pub bad_stands : (l : Progress) (b : List ℕ) (x : ℕ) → StandsFor l b → ((next_place l.place x).1 ≡ says.Bad) ↔ (BeginsText cert_format (b ++ x ∷ []) → ⊥)
+bad_stands l b x h = subst (λ (v : Progress). ((next_place v.place x).1 ≡ says.Bad) ↔ (BeginsText cert_format (b ++ x ∷ []) → ⊥)) (sym h.is) (bad_is b x)
 
-pub says_stands : (l : Progress) (b more : List ℕ) (x : ℕ) (c : Cert) → StandsFor l b → Parses (b ++ x ∷ more) c →
-    (next l.place x).1 ≡ cond (x == 10) (slice_index_or (steps_of c) (newlines b) says.More) says.More
-says_stands l b more x c h parses = ap (λ (v : Progress). (next v.place x).1) h.is ∙ says_is b more x c parses
+pub says_stands : (l : Progress) (b more : List ℕ) (x : ℕ) (c : Cert) → StandsFor l b → Parses cert_format (b ++ x ∷ more) c →
+    (next_place l.place x).1 ≡ cond (x == 10) (slice_index_or (steps_of c) (newlines b) says.More) says.More
+says_stands l b more x c h parses = ap (λ (v : Progress). (next_place v.place x).1) h.is ∙ says_is b more x c parses
 
 pub over_test : (e : Expected) → is_over_at e ≡ true → e ≡ Over
 over_test (Rest w at) h = absurd (cc)
@@ -335,11 +332,11 @@ over_test (Digits f v) h = absurd (cc)
 over_test Over h = refl
 over_test Nothing h = absurd (cc)
 
-pub over_stands : (l : Progress) (b : List ℕ) → StandsFor l b → (is_over_at l.place.expected ≡ true) ↔ ((c : Cert) × Parses b c)
+pub over_stands : (l : Progress) (b : List ℕ) → StandsFor l b → (is_over_at l.place.expected ≡ true) ↔ ((c : Cert) × Parses cert_format b c)
 over_stands l b h = (
   λ over. parses_from_over b (ap (λ (v : Progress). v.place.expected) (sym h.is) ∙ over_test l.place.expected over),
   λ parses. ap is_over_at (ap (λ (v : Progress). v.place.expected) h.is ∙ over_from_parses b parses.0 parses.1),
 )
 
-pub line_stands : (l : Progress) (b : List ℕ) → StandsFor l b → IsRefusedLine BeginsText b l.line
-line_stands l b h = subst (IsRefusedLine BeginsText b) (ap (λ (v : Progress). v.line) (sym h.is)) (line_is b)
+pub line_stands : (l : Progress) (b : List ℕ) → StandsFor l b → IsRefusedLine cert_format b l.line
+line_stands l b h = subst (IsRefusedLine cert_format b) (ap (λ (v : Progress). v.line) (sym h.is)) (line_is b)

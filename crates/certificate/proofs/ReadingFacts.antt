@@ -1,17 +1,15 @@
 -- Any bytes have one reading.
-use Rattle.std.proofs.Common.{◌≡◌, ℕ, ◌+◌, Bool, false, IsTrue, ◌↔◌, List, [], ◌∷◌, ◌++◌, length, refl, sym, ap, subst, ◌∙◌, arith, Result, Ok, Err}
+use Rattle.std.proofs.Common.{◌≡◌, ℕ, Bool, false, IsTrue, ◌↔◌, List, [], refl, sym, ap, subst, ◌∙◌, Result, Ok}
 use Rattle.std.proofs.lemmas.Bool.{both_ways}
-use Rattle.poet_io.proofs.RefusedFacts.{one_refused_line}
-use Rattle.certificate.specs.Text.{Parses, IsWithinGrammar, text_of}
-use Rattle.poet_io.specs.RefusedLines.{IsRefusedLine, newlines}
-use Rattle.certificate.specs.Reading.{IsReading, BeginsText, IsRefusedAt}
+use Rattle.poet_io.specs.declared.text_refusal.TextRefusal.{TextRefusal}
+use Rattle.poet_io.specs.Texts.{Parses, IsRefusedLine, IsRefusedAt, IsReading, HaveOneReading}
+use Rattle.poet_io.proofs.TextFacts.{one_reading, reading_is}
+use Rattle.certificate.specs.Text.{IsWithinGrammar, text_of, cert_format}
 use Rattle.certificate.specs.Steps.{steps_of}
 use Rattle.certificate.specs.Parsing.{cert_of_text, entries_of}
 use Rattle.certificate.specs.Machine.{after_bytes, beginning, is_over_at, start, walk}
 use Rattle.certificate.specs.declared.cert.Entry.{Entry}
 use Rattle.certificate.specs.declared.cert.Cert.{Cert}
-use Rattle.certificate.specs.declared.refusal.CertRefusal.{CertRefusal}
-use Rattle.certificate.specs.declared.refusal.CertRefusal.TheVariants.{Text, Memory}
 use Rattle.certificate.specs.declared.step.LineStep.{LineStep}
 use Rattle.certificate.proofs.FieldFacts.{cases}
 use Rattle.certificate.proofs.WalkFacts.{text_walk}
@@ -19,12 +17,12 @@ use Rattle.certificate.proofs.ProgressFacts.{parses_from_over, over_from_parses,
 use Rattle.certificate.proofs.StepFacts.{entries_of-steps, one_parse}
 
 -- the entries that the lines make are those of the certificate whose text the bytes are
-parsed : (b : List ℕ) (c : Cert) → Parses b c → Parses b (record { entries = entries_of (walk [] start b).0 })
+parsed : (b : List ℕ) (c : Cert) → Parses cert_format b c → Parses cert_format b (record { entries = entries_of (walk [] start b).0 })
 parsed b c h =
     let steps : (walk [] start b).0 ≡ steps_of c = ap (λ (t : List ℕ). (walk [] start t).0) h.text ∙ ap (λ (r : List LineStep × _). r.0) (text_walk c h.within) in
-    subst (λ (es : List Entry). Parses b (record { entries = es })) (sym (ap entries_of steps ∙ entries_of-steps c)) h
+    subst (λ (es : List Entry). Parses cert_format b (record { entries = es })) (sym (ap entries_of steps ∙ entries_of-steps c)) h
 
-pub reading_exists : (b : List ℕ) → IsReading b (cert_of_text b)
+pub reading_exists : (b : List ℕ) → IsReading cert_format b (cert_of_text b)
 unfolding cert_of_text
 reading_exists b = cases (is_over_at (after_bytes beginning b).place.expected)
     (λ over.
@@ -32,22 +30,16 @@ reading_exists b = cases (is_over_at (after_bytes beginning b).place.expected)
     rw over (parsed b p.0 p.1))
     (λ over. rw over (record { none = λ c h. absurd (let yes_over = ap is_over_at (over_from_parses b c h) in cc); line = line_is b }))
 
-pub reading_single : (b : List ℕ) (r s : Result Cert CertRefusal) → IsReading b r → IsReading b s → r ≡ s
-reading_single b (Ok c) (Ok d) h k = ap Ok (one_parse b c d h k)
-reading_single b (Ok c) (Err (Text n)) h k = absurd (k.none c h)
-reading_single b (Ok c) (Err Memory) h k = absurd k
-reading_single b (Err (Text m)) (Ok d) h k = absurd (h.none d k)
-reading_single b (Err (Text m)) (Err (Text n)) h k = ap (λ (n : ℕ). Err (Text n)) (one_refused_line BeginsText b m n h.line k.line)
-reading_single b (Err (Text m)) (Err Memory) h k = absurd k
-reading_single b (Err Memory) s h k = absurd h
+pub one_reading_each : HaveOneReading cert_format cert_of_text
+one_reading_each = record { exists = reading_exists; single = one_reading cert_format one_parse }
 
 -- a reading of the bytes is what `cert_of_text` gives
-pub cert_of_text-reading : (b : List ℕ) (r : Result Cert CertRefusal) → IsReading b r → cert_of_text b ≡ r
-cert_of_text-reading b r h = reading_single b (cert_of_text b) r (reading_exists b) h
+pub cert_of_text-reading : (b : List ℕ) (r : Result Cert TextRefusal) → IsReading cert_format b r → cert_of_text b ≡ r
+cert_of_text-reading = reading_is cert_format cert_of_text one_reading_each
 
 -- the bytes that were all fed, and are no certificate's text
-pub refused_all : (b bytes : List ℕ) (over : Bool) (n : ℕ) → b ≡ bytes → (IsTrue over ↔ ((c : Cert) × Parses b c)) → over ≡ false → IsRefusedLine BeginsText b n → IsRefusedAt bytes n
-refused_all b bytes over n e h not_over line = subst (λ (t : List ℕ). IsRefusedAt t n) e (record { none = λ c p. absurd (both_ways over not_over (h.1 (c, p))); line = line })
+pub refused_all : (b bytes : List ℕ) (over : Bool) (n : ℕ) → b ≡ bytes → (IsTrue over ↔ ((c : Cert) × Parses cert_format b c)) → over ≡ false → IsRefusedLine cert_format b n → IsRefusedAt cert_format bytes n
+refused_all b bytes over n e h not_over line = subst (λ (t : List ℕ). IsRefusedAt cert_format t n) e (record { none = λ c p. absurd (both_ways over not_over (h.1 (c, p))); line = line })
 
 -- what is written is read as it was
 pub cert_of_text-text_of : (c : Cert) → IsWithinGrammar c → cert_of_text (text_of c) ≡ Ok c

@@ -1,5 +1,4 @@
 pub mod Text
-pub mod Reading
 pub mod Steps
 pub mod Progress
 pub mod Machine

@@ -1,12 +1,17 @@
 -- The one text of each certificate.
 use Rattle.std.specs.Prelude.{◌≡◌, ℕ, suc, ◌≤◌, List, [], ◌∷◌, ◌++◌, length, codes, decimal, All}
 use Rattle.std.specs.List.{flat_map}
+use Rattle.poet_io.specs.Texts.{Format}
 use Rattle.certificate.specs.declared.cert.Entry.{Entry}
 use Rattle.certificate.specs.declared.cert.Cert.{Cert}
+use Rattle.certificate.specs.declared.cert.Point.{Point}
+
+abbrev pub point_of : ℕ → ℕ → Point
+point_of offset end = record { offset = offset; end = end }
 
 -- the line of a point: p OFFSET END
-abbrev pub point_text : ℕ × ℕ → List ℕ
-point_text p = codes "p " ++ (decimal p.0 ++ (codes " " ++ (decimal p.1 ++ codes "\n")))
+abbrev pub point_text : Point → List ℕ
+point_text p = codes "p " ++ (decimal p.offset ++ (codes " " ++ (decimal p.end ++ codes "\n")))
 
 -- the first line of the i-th entry: task I WINDOW BOUND COUNT
 abbrev pub entry_line : ℕ → Entry → List ℕ
@@ -28,9 +33,9 @@ abbrev pub limit : ℕ
 limit = 1000000000
 
 -- a point's numbers are in range
-pub record IsPoint (p : ℕ × ℕ) : Type 0 where
-  pub offset : p.0 ≤ limit
-  pub end : p.1 ≤ limit
+pub record IsPoint (p : Point) : Type 0 where
+  pub offset : p.offset ≤ limit
+  pub end : p.end ≤ limit
 
 -- an entry's numbers are in range, and it has 1 to 1000000 points
 pub record IsEntry (e : Entry) : Type 0 where
@@ -46,7 +51,6 @@ pub record IsWithinGrammar (c : Cert) : Type 0 where
   pub few : length c.entries ≤ 256
   pub entries : All IsEntry c.entries
 
--- the bytes are the text of the certificate
-pub record Parses (bytes : List ℕ) (c : Cert) : Type 0 where
-  pub within : IsWithinGrammar c
-  pub text : bytes ≡ text_of c
+-- the format of certificates: each that is within the grammar has its one text
+abbrev pub cert_format : Format Cert
+cert_format = record { is_within = IsWithinGrammar; is_text_of = λ bytes c. bytes ≡ text_of c }

@@ -6,14 +6,12 @@ mod laws;
 mod lines;
 mod place;
 mod reading;
-mod refusal;
 mod step;
 mod writing;
 
-pub use cert::{Cert, Entry};
+pub use cert::{Cert, Entry, Point};
 pub use laws::text_has_one_reading;
 pub use lines::Lines;
 pub use reading::read_cert;
-pub use refusal::CertRefusal;
 pub use step::LineStep;
 pub use writing::write_cert;

@@ -1,11 +1,10 @@
 //! A certificate's text as it comes, byte by byte.
 
 ghost use Rattle.std.specs.Prelude.{◌≡◌, ◌<◌, ◌↔◌, ◌==◌, ◌&&◌, ◌+◌, ℕ, [], ◌∷◌, ◌++◌, List, if◌then◌else◌, IsTrue, slice_index_or};
-ghost use Rattle.certificate.specs.Text.{Parses};
-ghost use Rattle.poet_io.specs.RefusedLines.{IsRefusedLine, newlines};
-ghost use Rattle.certificate.specs.Reading.{BeginsText};
+ghost use Rattle.poet_io.specs.Texts.{Parses, BeginsText, IsRefusedLine, newlines};
+ghost use Rattle.certificate.specs.Text.{cert_format};
 ghost use Rattle.certificate.specs.Steps.{steps_of};
-ghost use Rattle.certificate.specs.Machine.{StandsFor, after_byte, next, is_good_at};
+ghost use Rattle.certificate.specs.Machine.{StandsFor, after_byte, next_place, is_good_at};
 ghost use Rattle.certificate.specs.declared.cert.Cert.{Cert};
 
 use crate::place::Place;
@@ -57,7 +56,7 @@ impl Lines {
 
     fn advance(&mut self, byte: u8) -> LineStep
         ensures progress { self.new ≡ after_byte self.old byte }
-        ensures step { result ≡ (next self.old.place byte).1 }
+        ensures step { result ≡ (next_place self.old.place byte).1 }
     {
         let (place, step) = self.place.next(byte);
         let line = next_line(self.line, byte, place);
@@ -72,11 +71,11 @@ impl Lines {
 
         // Bad exactly where no certificate's text begins so.
         ensures bad { (b : List ℕ) → StandsFor self.old b →
-            ((result ≡ LineStep.Bad) ↔ ¬ (BeginsText (b ++ byte ∷ []))) }
+            ((result ≡ LineStep.Bad) ↔ ¬ (BeginsText cert_format (b ++ byte ∷ []))) }
 
         // For each certificate whose text begins so, a newline says what its line says.
         ensures says { (b more : List ℕ) (c : Cert) → StandsFor self.old b →
-            Parses (b ++ byte ∷ more) c → result ≡
+            Parses cert_format (b ++ byte ∷ more) c → result ≡
             (if byte == 10 then slice_index_or (steps_of c) (newlines b) LineStep.More
             else LineStep.More) }
     {
@@ -85,14 +84,15 @@ impl Lines {
 
     /// Whether the bytes so far are a certificate's text.
     pub fn is_over(&self) -> bool
-        ensures { (b : List ℕ) → StandsFor self.now b → (IsTrue result ↔ ((c : Cert) × Parses b c)) }
+        ensures { (b : List ℕ) → StandsFor self.now b →
+            (IsTrue result ↔ ((c : Cert) × Parses cert_format b c)) }
     {
         self.place.is_over()
     }
 
     /// The line that a refusal of the bytes so far names, counted from 1.
     pub fn line(&self) -> u64
-        ensures { (b : List ℕ) → StandsFor self.now b → IsRefusedLine BeginsText b result }
+        ensures { (b : List ℕ) → StandsFor self.now b → IsRefusedLine cert_format b result }
     {
         self.line
     }

@@ -1,4 +1,4 @@
-use Rattle.std.proofs.Common.{◌≡◌, ℕ, ◌-◌, nat_le, nat_lt, Bool, true, false, Option, Some, None, List, [], ◌∷◌, length, refl, ap}
+use Rattle.std.proofs.Common.{◌≡◌, ℕ, ◌-◌, nat_le, nat_lt, Bool, true, false, Option, Some, None, List, [], ◌∷◌, length, refl, ap, arith}
 use Rattle.std.proofs.lemmas.Bool.{and_parts, and_from, eqb-true, eq-eqb, leb-true, le-leb, ltb-true, lt-ltb}
 use Rattle.lists.proofs.FirstFacts.{must_holds, must_from, first_parts, first_from, none_below, none_from}
 use Rattle.task_sheet.specs.SheetParts.{SheetParts}
@@ -8,10 +8,15 @@ use Rattle.demand.specs.Demand.{window_need_of}
 use Rattle.search_space.proofs.PointFacts.{same_means, same_true}
 use Rattle.certificate.specs.declared.cert.Entry.{Entry}
 use Rattle.certificate.specs.declared.cert.Cert.{Cert}
-use Rattle.demand.specs.Meeting.{ComesNext, KeepsGap, PointMeets, PointsMeet}
+use Rattle.certificate.specs.declared.cert.Point.{Point}
+use Rattle.demand.specs.Meeting.{IsWindow, MeetsEnd, MeetsBound, ComesNext, KeepsGap, PointMeets, PointsMeet}
 use Rattle.conditions.specs.declared.failed.Cond.{Cond}
-use Rattle.conditions.specs.Conditions.{entry_at, is_in_time, comes_next, gap_failed_of, point_failed_of, points_failed_of, named, task_failed_of, failed_of}
-use Rattle.conditions.specs.Meets.{IsInTime, TaskMeets, CertMeets}
+use Rattle.conditions.specs.Conditions.{entry_at, is_window, is_in_time, comes_next, ends_within, meets_end, rest_within, gap_failed_of, point_failed_of, points_failed_of, named, task_failed_of, failed_of}
+use Rattle.conditions.specs.Meets.{IsInTime, pairs_of, TaskMeets, CertMeets}
+
+pub pairs_count : (points : List Point) → length (pairs_of points) ≡ length points
+pairs_count [] = refl
+pairs_count (q ∷ points) = omega (arith, pairs_count points)
 
 module _ (p : PolicyMeaning) (m : CutMeaning) (sbf : ℕ → ℕ) (sheet : SheetParts) (i : ℕ) where
   pub gap_means : (before : Option ℕ) (q : ℕ) → gap_failed_of p sheet i before q ≡ None → KeepsGap p sheet i before q
@@ -30,6 +35,23 @@ module _ (p : PolicyMeaning) (m : CutMeaning) (sbf : ℕ → ℕ) (sheet : Sheet
   next_true None a h = eq-eqb a 0 h
   next_true (Some before) a h = lt-ltb before a h
 
+  pub window_means : (window : ℕ) → is_window p m sbf sheet i window ≡ true → IsWindow p m sbf sheet i window
+  window_means window h =
+      let parts = and_parts (nat_le 1 window) (nat_le (window_need_of p m sheet i window) (sbf window)) h in
+      record { positive = leb-true _ _ parts.0; enough = leb-true _ _ parts.1 }
+
+  pub window_true : (window : ℕ) → IsWindow p m sbf sheet i window → is_window p m sbf sheet i window ≡ true
+  window_true window meets = and_from (nat_le 1 window) (nat_le (window_need_of p m sheet i window) (sbf window)) (le-leb _ _ meets.positive) (le-leb _ _ meets.enough)
+
+  pub end_means : (a x : ℕ) → meets_end p m sbf sheet i a x ≡ true → MeetsEnd p m sbf sheet i a x
+  end_means a x h = record { enough = leb-true _ _ h }
+
+  pub end_true : (a x : ℕ) → MeetsEnd p m sbf sheet i a x → meets_end p m sbf sheet i a x ≡ true
+  end_true a x meets = le-leb _ _ meets.enough
+
+  pub bound_means : (a x bound : ℕ) → ends_within sheet i a x bound ≡ true → rest_within p m sbf sheet i a x bound ≡ true → MeetsBound p m sbf sheet i a x bound
+  bound_means a x bound end rest = record { end = leb-true _ _ end; enough = leb-true _ _ rest }
+
   pub point_means : (window bound : ℕ) (before : Option ℕ) (a x : ℕ) → point_failed_of p m sbf sheet i window bound before a x ≡ None → PointMeets p m sbf sheet i window bound before a x
   point_means window bound before a x h =
       let one = first_parts _ _ h in
@@ -41,8 +63,8 @@ module _ (p : PolicyMeaning) (m : CutMeaning) (sbf : ℕ → ℕ) (sheet : Sheet
         next = next_means before a listed.0;
         below = ltb-true a window listed.1;
         gap = gap_means before a two.0;
-        end = record { enough = leb-true _ _ (must_holds _ _ four.0) };
-        within = record { end = leb-true _ _ (must_holds _ _ three.0); enough = leb-true _ _ (must_holds _ _ four.1) };
+        end = end_means a x (must_holds _ _ four.0);
+        within = bound_means a x bound (must_holds _ _ three.0) (must_holds _ _ four.1);
       }
 
   pub point_none : (window bound : ℕ) (before : Option ℕ) (a x : ℕ) → PointMeets p m sbf sheet i window bound before a x → point_failed_of p m sbf sheet i window bound before a x ≡ None
@@ -50,17 +72,17 @@ module _ (p : PolicyMeaning) (m : CutMeaning) (sbf : ℕ → ℕ) (sheet : Sheet
       first_from _ _ (must_from _ _ (and_from (comes_next before a) (nat_lt a window) (next_true before a meets.next) (lt-ltb a window meets.below)))
       (first_from _ _ (gap_none before a meets.gap)
       (first_from _ _ (must_from _ _ (le-leb _ _ meets.within.end))
-      (first_from _ _ (must_from _ _ (le-leb _ _ meets.end.enough)) (must_from _ _ (le-leb _ _ meets.within.enough)))))
+      (first_from _ _ (must_from _ _ (end_true a x meets.end)) (must_from _ _ (le-leb _ _ meets.within.enough)))))
 
-  pub points_mean : (window bound : ℕ) (before : Option ℕ) (qs : List (ℕ × ℕ)) → points_failed_of p m sbf sheet i window bound before qs ≡ None → PointsMeet p m sbf sheet i window bound before qs
+  pub points_mean : (window bound : ℕ) (before : Option ℕ) (qs : List Point) → points_failed_of p m sbf sheet i window bound before qs ≡ None → PointsMeet p m sbf sheet i window bound before (pairs_of qs)
   points_mean window bound before [] h = gap_means before window h
   points_mean window bound before (q ∷ qs) h =
       let parts = first_parts _ _ h in
-      (point_means window bound before q.0 q.1 parts.0, points_mean window bound (Some q.0) qs parts.1)
+      (point_means window bound before q.offset q.end parts.0, points_mean window bound (Some q.offset) qs parts.1)
 
-  pub points_none : (window bound : ℕ) (before : Option ℕ) (qs : List (ℕ × ℕ)) → PointsMeet p m sbf sheet i window bound before qs → points_failed_of p m sbf sheet i window bound before qs ≡ None
+  pub points_none : (window bound : ℕ) (before : Option ℕ) (qs : List Point) → PointsMeet p m sbf sheet i window bound before (pairs_of qs) → points_failed_of p m sbf sheet i window bound before qs ≡ None
   points_none window bound before [] meet = gap_none before window meet
-  points_none window bound before (q ∷ qs) meet = first_from _ _ (point_none window bound before q.0 q.1 meet.0) (points_none window bound (Some q.0) qs meet.1)
+  points_none window bound before (q ∷ qs) meet = first_from _ _ (point_none window bound before q.offset q.end meet.0) (points_none window bound (Some q.offset) qs meet.1)
 
   time_means : (deadlines : Bool) (bound : ℕ) → is_in_time sheet deadlines i bound ≡ true → IsInTime sheet deadlines i bound
   time_means true bound h = leb-true _ _ h
@@ -79,18 +101,19 @@ module _ (p : PolicyMeaning) (m : CutMeaning) (sbf : ℕ → ℕ) (sheet : Sheet
   task_means deadlines e h =
       let parts = first_parts _ _ h in
       let whole = first_parts _ _ (named_none _ parts.0) in
-      let window = and_parts (nat_le 1 e.window) (nat_le (window_need_of p m sheet i e.window) (sbf e.window)) (must_holds _ _ whole.0) in
+      let later = first_parts _ _ whole.1 in
       record {
-        window = record { positive = leb-true _ _ window.0; enough = leb-true _ _ window.1 };
-        in_time = time_means deadlines e.bound (must_holds _ _ whole.1);
+        covers = leb-true _ _ (must_holds _ _ whole.0);
+        window = window_means e.window (must_holds _ _ later.0);
+        in_time = time_means deadlines e.bound (must_holds _ _ later.1);
         points = points_mean e.window e.bound None e.points parts.1;
       }
 
   pub task_none : (deadlines : Bool) (e : Entry) → TaskMeets p m sbf sheet deadlines i e → task_failed_of p m sbf sheet deadlines i e ≡ None
   unfolding task_failed_of
   task_none deadlines e meets =
-      let window = and_from (nat_le 1 e.window) (nat_le (window_need_of p m sheet i e.window) (sbf e.window)) (le-leb _ _ meets.window.positive) (le-leb _ _ meets.window.enough) in
-      first_from _ _ (ap (named i) (first_from _ _ (must_from _ _ window) (must_from _ _ (time_true deadlines e.bound meets.in_time))))
+      let later = first_from _ _ (must_from _ _ (window_true e.window meets.window)) (must_from _ _ (time_true deadlines e.bound meets.in_time)) in
+      first_from _ _ (ap (named i) (first_from _ _ (must_from _ _ (le-leb _ _ meets.covers)) later))
       (points_none e.window e.bound None e.points meets.points)
 
 pub cert_means : (p : PolicyMeaning) (m : CutMeaning) (sbf : ℕ → ℕ) (sheet : SheetParts) (deadlines : Bool) (cert : Cert) → failed_of p m sbf sheet deadlines cert ≡ None → CertMeets p m sbf sheet deadlines cert

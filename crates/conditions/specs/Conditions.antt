@@ -9,8 +9,9 @@ use Rattle.demand.specs.Demand.{rest_of, need_of, window_need_of}
 use Rattle.search_space.specs.Points.{same_at}
 use Rattle.certificate.specs.declared.cert.Entry.{Entry}
 use Rattle.certificate.specs.declared.cert.Cert.{Cert}
+use Rattle.certificate.specs.declared.cert.Point.{Point}
 use Rattle.conditions.specs.declared.failed.Cond.{Cond}
-use Rattle.conditions.specs.declared.failed.Cond.TheVariants.{K1, K3, K4, K5, K6, K7, K8, K9}
+use Rattle.conditions.specs.declared.failed.Cond.TheVariants.{K1, K2, K3, K4, K5, K6, K7, K8, K9}
 use Rattle.conditions.specs.declared.failed.Failed.{Failed}
 
 -- what stands past the last entry
@@ -32,6 +33,10 @@ of_task i cond = record { cond = cond; task = Some i; point = None }
 abbrev pub of_point : ℕ → ℕ → Cond → Failed
 of_point i a cond = record { cond = cond; task = Some i; point = Some a }
 
+-- K2: the bound covers the jitter
+abbrev pub covers_jitter : SheetParts → ℕ → ℕ → Bool
+covers_jitter sheet i bound = nat_le (task_at sheet i).jitter bound
+
 -- K3: the window is not 0, and its supply covers the demand of the class
 abbrev pub is_window : PolicyMeaning → CutMeaning → (ℕ → ℕ) → SheetParts → ℕ → ℕ → Bool
 is_window p m sbf sheet i window = nat_le 1 window && nat_le (window_need_of p m sheet i window) (sbf window)
@@ -46,10 +51,24 @@ abbrev pub comes_next : Option ℕ → ℕ → Bool
 comes_next None a = a == 0
 comes_next (Some before) a = nat_lt before a
 
--- K3 and K9
+-- K2, K3 and K9
 abbrev pub entry_failed_of : PolicyMeaning → CutMeaning → (ℕ → ℕ) → SheetParts → Bool → ℕ → ℕ → ℕ → Option Cond
 entry_failed_of p m sbf sheet deadlines i window bound =
-    first_of (must (is_window p m sbf sheet i window) K3) (must (is_in_time sheet deadlines i bound) K9)
+    first_of (must (covers_jitter sheet i bound) K2)
+    (first_of (must (is_window p m sbf sheet i window) K3)
+    (must (is_in_time sheet deadlines i bound) K9))
+
+-- K6: the end lies within the bound, which counts from the arrival
+abbrev pub ends_within : SheetParts → ℕ → ℕ → ℕ → ℕ → Bool
+ends_within sheet i a x bound = nat_le (x + (task_at sheet i).jitter) (a + bound)
+
+-- K7: the supply up to the end covers the demand
+abbrev pub meets_end : PolicyMeaning → CutMeaning → (ℕ → ℕ) → SheetParts → ℕ → ℕ → ℕ → Bool
+meets_end p m sbf sheet i a x = nat_le (need_of p m sheet i a x) (sbf x)
+
+-- K8: the supply up to the bound covers the demand and the rest of the job
+abbrev pub rest_within : PolicyMeaning → CutMeaning → (ℕ → ℕ) → SheetParts → ℕ → ℕ → ℕ → ℕ → Bool
+rest_within p m sbf sheet i a x bound = nat_le (need_of p m sheet i a x + rest_of m sheet i) (sbf (a + bound - (task_at sheet i).jitter))
 
 -- K5: no number tells the offset before and the last one before q apart
 abbrev pub gap_failed_of : PolicyMeaning → SheetParts → ℕ → Option ℕ → ℕ → Option Failed
@@ -61,15 +80,15 @@ abbrev pub point_failed_of : PolicyMeaning → CutMeaning → (ℕ → ℕ) → 
 point_failed_of p m sbf sheet i window bound before a x =
     first_of (must (comes_next before a && nat_lt a window) (of_point i a K4))
     (first_of (gap_failed_of p sheet i before a)
-    (first_of (must (nat_le x (a + bound)) (of_point i a K6))
-    (first_of (must (nat_le (need_of p m sheet i a x) (sbf x)) (of_point i a K7))
-    (must (nat_le (need_of p m sheet i a x + rest_of m sheet i) (sbf (a + bound))) (of_point i a K8)))))
+    (first_of (must (ends_within sheet i a x bound) (of_point i a K6))
+    (first_of (must (meets_end p m sbf sheet i a x) (of_point i a K7))
+    (must (rest_within p m sbf sheet i a x bound) (of_point i a K8)))))
 
 -- the points that follow the offset before, and the gap from the last of them to the window's end
-abbrev pub points_failed_of : PolicyMeaning → CutMeaning → (ℕ → ℕ) → SheetParts → ℕ → ℕ → ℕ → Option ℕ → List (ℕ × ℕ) → Option Failed
+abbrev pub points_failed_of : PolicyMeaning → CutMeaning → (ℕ → ℕ) → SheetParts → ℕ → ℕ → ℕ → Option ℕ → List Point → Option Failed
 points_failed_of p m sbf sheet i window bound before [] = gap_failed_of p sheet i before window
 points_failed_of p m sbf sheet i window bound before (q ∷ qs) =
-    first_of (point_failed_of p m sbf sheet i window bound before q.0 q.1) (points_failed_of p m sbf sheet i window bound (Some q.0) qs)
+    first_of (point_failed_of p m sbf sheet i window bound before q.offset q.end) (points_failed_of p m sbf sheet i window bound (Some q.offset) qs)
 
 -- a condition of the entry as a whole, with its task
 abbrev pub named : ℕ → Option Cond → Option Failed

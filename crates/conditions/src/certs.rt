@@ -13,8 +13,8 @@ use preemption::Preemption;
 use supply::Supply;
 use task_sheet::Sheet;
 
-/// The first of `K3` and, with `deadlines`, `K9` that fails of task `i`, whose window and bound are
-/// in ticks.
+/// The first of `K2`, `K3` and, with `deadlines`, `K9` that fails of task `i`, whose window and bound
+/// are in ticks.
 pub fn entry_failed<P: Policy, M: Preemption, S: Supply>(
     sheet: &Sheet,
     supply: &S,
@@ -29,6 +29,9 @@ pub fn entry_failed<P: Policy, M: Preemption, S: Supply>(
     requires served { Serves M.cuts sheet.now }
     ensures { result ≡ entry_failed_of P.meaning M.cuts (S.sbf supply.now) sheet.now deadlines i window bound }
 {
+    if bound < sheet.task(i).jitter {
+        return Some(Cond::K2);
+    }
     if window < 1 || (supply.sbf(window) as u128) < window_need::<P, M>(sheet, i, window) {
         return Some(Cond::K3);
     }
@@ -83,7 +86,7 @@ fn task_failed<P: Policy, M: Preemption, S: Supply>(
 }
 
 /// The first condition that fails of a certificate, in the order of judging: `K1`, then task by
-/// task `K3`, `K9` with `deadlines`, and point by point `K4` to `K8`.
+/// task `K2`, `K3`, `K9` with `deadlines`, and point by point `K4` to `K8`.
 #[tactic(auto, using(crate::proofs::FailedFacts::failed_at), unfolding(crate::specs::Conditions::failed_of))]
 pub fn first_failed<P: Policy, M: Preemption, S: Supply>(
     sheet: &Sheet,

@@ -7,17 +7,20 @@ ghost use Rattle.conditions.specs.Conditions.{of_task, of_point};
 pub enum Cond {
     /// There are as many entries as tasks.
     K1,
+    /// The bound is at least the jitter.
+    K2,
     /// The window is not 0, and its supply covers the demand of the task's class.
     K3,
     /// Offsets rise from 0, and lie below the window.
     K4,
     /// No offset is missing up to the next, or to the window's end.
     K5,
-    /// The end is at most the offset plus the bound.
+    /// The end is at most the offset plus the bound less the jitter.
     K6,
     /// The supply up to the end covers the demand.
     K7,
-    /// The supply up to the offset and the bound covers the demand and the rest of the job.
+    /// The supply up to the offset plus the bound less the jitter covers the demand and the rest of
+    /// the job.
     K8,
     /// The bound is at most the deadline.
     K9,

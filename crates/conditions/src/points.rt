@@ -6,6 +6,7 @@ ghost use Rattle.certificate.specs.Text.{IsPoint};
 ghost use Rattle.conditions.specs.Conditions.{point_failed_of, points_failed_of};
 
 use crate::failed::{Cond, Failed};
+use certificate::Point;
 use demand::{need, rest};
 use policy::Policy;
 use preemption::Preemption;
@@ -26,6 +27,7 @@ pub fn gap_failed<P: Policy>(sheet: &Sheet, i: u32, p: u64, q: u64) -> bool
 
 /// The first of `K4` to `K8` that fails of task `i` at the point with this offset and end, which
 /// follows the offset `before`. Window, bound, offsets and end are in ticks.
+#[tactic(auto, using(task_sheet::specs::Limits::jitter_high))]
 pub fn point_failed<P: Policy, M: Preemption, S: Supply>(
     sheet: &Sheet,
     supply: &S,
@@ -57,14 +59,15 @@ pub fn point_failed<P: Policy, M: Preemption, S: Supply>(
     {
         return Some(Failed::of_point(i, p, Cond::K5));
     }
-    if end > offset + bound {
+    let jitter = sheet.task(i).jitter;
+    if end + jitter > offset + bound {
         return Some(Failed::of_point(i, offset, Cond::K6));
     }
     let need = need::<P, M>(sheet, i, offset, end);
     if (supply.sbf(end) as u128) < need {
         return Some(Failed::of_point(i, offset, Cond::K7));
     }
-    if (supply.sbf(offset + bound) as u128) < need + rest::<M>(sheet, i) as u128 {
+    if (supply.sbf(offset + bound - jitter) as u128) < need + rest::<M>(sheet, i) as u128 {
         return Some(Failed::of_point(i, offset, Cond::K8));
     }
     None
@@ -77,7 +80,7 @@ pub fn points_failed<P: Policy, M: Preemption, S: Supply>(
     i: u32,
     window: u64,
     bound: u64,
-    points: &[(u64, u64)],
+    points: &[Point],
 ) -> Option<Failed>
     requires task { i < length sheet.now.tasks }
     requires window { window ≤ 1000000000 }
@@ -89,11 +92,18 @@ pub fn points_failed<P: Policy, M: Preemption, S: Supply>(
     let mut before = None;
     for point in points {
         if let Some(failed) = point_failed::<P, M, S>(
-            sheet, supply, i, window, bound, before, point.0, point.1,
+            sheet,
+            supply,
+            i,
+            window,
+            bound,
+            before,
+            point.offset,
+            point.end,
         ) {
             return Some(failed);
         }
-        before = Some(point.0);
+        before = Some(point.offset);
     }
     if let Some(p) = before
         && gap_failed::<P>(sheet, i, p, window)

@@ -23,8 +23,8 @@ use Rattle.demand.specs.Demand.{capped_count, rest_of, own_of, other_of, others_
 use Rattle.demand.specs.DemandLaws.{IsRising}
 
 -- a job of the task alone asks for what is left of it, and more
-pub rest_fits : (m : CutMeaning) (task : Task) (a : ℕ) → IsCurve task.curve → task.cost - m.threshold task ≤ task.cost * alpha_of task.curve (a + 1)
-rest_fits m task a ok = omega (arith, mul-le-mul_left task.cost (alpha_one task.curve ok (a + 1) (omega arith)))
+pub rest_fits : (m : CutMeaning) (task : Task) (d : ℕ) → IsCurve task.curve → 1 ≤ d → task.cost - m.threshold task ≤ task.cost * alpha_of task.curve d
+rest_fits m task d ok some = omega (arith, mul-le-mul_left task.cost (alpha_one task.curve ok d some))
 
 -- the greatest is 0 or stands somewhere
 pub max_stands : (f : ℕ → ℕ) (n : ℕ) → (max_below f n ≡ 0) ⊎ ((o : ℕ) × (o < n) × (max_below f n ≡ f o))
@@ -37,26 +37,26 @@ max_stands f (suc n) = elim (cases_lt (max_below f n) (f n)) [
   ]
 ]
 
-pub count_whole : (curve : Curve) → IsCurve curve → (c : Cap) (l : ℕ) → capped_count curve c l ≤ alpha_of curve l
-count_whole curve ok Nothing l = omega arith
-count_whole curve ok (At c) l = alpha_mono curve ok (min l (not_below_zero c)) l (omega arith)
-count_whole curve ok All l = omega arith
+pub count_whole : (curve : Curve) → IsCurve curve → (jitter : ℕ) (c : Cap) (l : ℕ) → capped_count curve jitter c l ≤ alpha_of curve (l + jitter)
+count_whole curve ok jitter Nothing l = omega arith
+count_whole curve ok jitter (At c) l = alpha_mono curve ok (min (l + jitter) (not_below_zero c)) (l + jitter) (omega arith)
+count_whole curve ok jitter All l = omega arith
 
 -- a cap of at most 0 admits no job
-pub count_none : (curve : Curve) → IsCurve curve → (c : Cap) (l : ℕ) → AdmitsNone c → capped_count curve c l ≡ 0
-count_none curve ok Nothing l h = absurd h
-count_none curve ok (At (pos n)) l h =
-    let e : min l n ≡ 0 = omega (arith, ints) in
+pub count_none : (curve : Curve) → IsCurve curve → (jitter : ℕ) (c : Cap) (l : ℕ) → AdmitsNone c → capped_count curve jitter c l ≡ 0
+count_none curve ok jitter Nothing l h = absurd h
+count_none curve ok jitter (At (pos n)) l h =
+    let e : min (l + jitter) n ≡ 0 = omega (arith, ints) in
     ap (alpha_of curve) e ∙ alpha_zero curve ok
-count_none curve ok (At (negsuc n)) l h =
-    let e : min l 0 ≡ 0 = omega arith in
+count_none curve ok jitter (At (negsuc n)) l h =
+    let e : min (l + jitter) 0 ≡ 0 = omega arith in
     ap (alpha_of curve) e ∙ alpha_zero curve ok
-count_none curve ok All l h = absurd h
+count_none curve ok jitter All l h = absurd h
 
-pub count_grows : (curve : Curve) → IsCurve curve → (c : Cap) (x y : ℕ) → x ≤ y → capped_count curve c x ≤ capped_count curve c y
-count_grows curve ok Nothing x y h = omega arith
-count_grows curve ok (At c) x y h = alpha_mono curve ok (min x (not_below_zero c)) (min y (not_below_zero c)) (omega arith)
-count_grows curve ok All x y h = alpha_mono curve ok x y h
+pub count_grows : (curve : Curve) → IsCurve curve → (jitter : ℕ) (c : Cap) (x y : ℕ) → x ≤ y → capped_count curve jitter c x ≤ capped_count curve jitter c y
+count_grows curve ok jitter Nothing x y h = omega arith
+count_grows curve ok jitter (At c) x y h = alpha_mono curve ok (min (x + jitter) (not_below_zero c)) (min (y + jitter) (not_below_zero c)) (omega arith)
+count_grows curve ok jitter All x y h = alpha_mono curve ok (x + jitter) (y + jitter) (omega arith)
 
 unless_le : (b : Bool) (w x : ℕ) → w ≤ x → cond b 0 w ≤ cond b 0 x
 unless_le true w x h = omega arith
@@ -74,7 +74,7 @@ pub others_grow : (p : PolicyMeaning) (sheet : SheetParts) → IsValidSheet shee
 unfolding others_of
 others_grow p sheet ok i a x y h =
     sum_le (other_of p sheet i a x) (other_of p sheet i a y) (length sheet.tasks)
-    (λ o b. unless_le (o == i) _ _ (mul-le-mul_left (task_at sheet o).cost (count_grows (task_at sheet o).curve (ok.each o b).curve (p.cap sheet i o a) x y h)))
+    (λ o b. unless_le (o == i) _ _ (mul-le-mul_left (task_at sheet o).cost (count_grows (task_at sheet o).curve (ok.each o b).curve (task_at sheet o).jitter (p.cap sheet i o a) x y h)))
 
 pub need_grows : (p : PolicyMeaning) (m : CutMeaning) (sheet : SheetParts) → IsValidSheet sheet → (i a x y : ℕ) → x ≤ y → need_of p m sheet i a x ≤ need_of p m sheet i a y
 unfolding need_of
@@ -84,7 +84,7 @@ pub window_need_grows : (p : PolicyMeaning) (m : CutMeaning) (sheet : SheetParts
 unfolding window_need_of
 window_need_grows p m sheet ok i k l h =
     let parts = sum_le (class_part_of p sheet i k) (class_part_of p sheet i l) (length sheet.tasks)
-    (λ o b. cond_mono (p.class sheet i o) _ _ (mul-le-mul_left (task_at sheet o).cost (alpha_mono (task_at sheet o).curve (ok.each o b).curve k l h))) in
+    (λ o b. cond_mono (p.class sheet i o) _ _ (mul-le-mul_left (task_at sheet o).cost (alpha_mono (task_at sheet o).curve (ok.each o b).curve (k + (task_at sheet o).jitter) (l + (task_at sheet o).jitter) (omega arith)))) in
     omega (arith, parts)
 
 pub rising : (p : PolicyMeaning) (m : CutMeaning) (sheet : SheetParts) → IsValidSheet sheet → (i : ℕ) → IsRising p m sheet i
@@ -94,9 +94,19 @@ rising p m sheet ok i = record {
 }
 
 module _ (p : PolicyMeaning) (m : CutMeaning) (sheet : SheetParts) (ok : IsValidSheet sheet) (lawful : IsLawfulPolicy p sheet) (cut : (o : ℕ) → o < length sheet.tasks → IsLawfulCut m (task_at sheet o)) (i a l : ℕ) (in_range : i < length sheet.tasks) (below : a < l) where
+  -- the demand of task i itself, of task o within the cap, and of all jobs of task o
+  abbrev own : ℕ
+  own = (task_at sheet i).cost * alpha_of (task_at sheet i).curve (a + 1 + (task_at sheet i).jitter)
+
+  abbrev other : ℕ → ℕ
+  other o = (task_at sheet o).cost * capped_count (task_at sheet o).curve (task_at sheet o).jitter (p.cap sheet i o a) l
+
+  abbrev whole : ℕ → ℕ
+  whole o = (task_at sheet o).cost * alpha_of (task_at sheet o).curve (l + (task_at sheet o).jitter)
+
   -- the demand of task o that a job of i sees, its own whole
   part : ℕ → ℕ
-  part o = cond (o == i) ((task_at sheet i).cost * alpha_of (task_at sheet i).curve (a + 1)) ((task_at sheet o).cost * capped_count (task_at sheet o).curve (p.cap sheet i o a) l)
+  part o = cond (o == i) own (other o)
 
   own_part : part i ≤ class_part_of p sheet i l i
   unfolding part
@@ -104,46 +114,51 @@ module _ (p : PolicyMeaning) (m : CutMeaning) (sheet : SheetParts) (ok : IsValid
       let task = task_at sheet i in
       omega (
         arith,
-        ap (λ (b : Bool). cond b (task.cost * alpha_of task.curve (a + 1)) (task.cost * capped_count task.curve (p.cap sheet i i a) l)) (eq-eqb i i refl),
-        ap (λ (b : Bool). cond b (task.cost * alpha_of task.curve l) 0) (lawful.own_class i in_range),
-        mul-le-mul_left task.cost (alpha_mono task.curve (ok.each i in_range).curve (a + 1) l (omega arith)),
+        ap (λ (b : Bool). cond b own (other i)) (eq-eqb i i refl),
+        ap (λ (b : Bool). cond b (whole i) 0) (lawful.own_class i in_range),
+        mul-le-mul_left task.cost (alpha_mono task.curve (ok.each i in_range).curve (a + 1 + task.jitter) (l + task.jitter) (omega arith)),
       )
 
-  other_part : (o : ℕ) → o < length sheet.tasks → o ≢ i → part o ≡ (task_at sheet o).cost * capped_count (task_at sheet o).curve (p.cap sheet i o a) l
+  other_part : (o : ℕ) → o < length sheet.tasks → o ≢ i → part o ≡ other o
   unfolding part
-  other_part o b ne = ap (λ (w : Bool). cond w ((task_at sheet i).cost * alpha_of (task_at sheet i).curve (a + 1)) ((task_at sheet o).cost * capped_count (task_at sheet o).curve (p.cap sheet i o a) l)) (ne_eqb o i ne)
+  other_part o b ne = ap (λ (w : Bool). cond w own (other o)) (ne_eqb o i ne)
 
-  class_part : (o : ℕ) → p.class sheet i o ≡ true → class_part_of p sheet i l o ≡ (task_at sheet o).cost * alpha_of (task_at sheet o).curve l
-  class_part o e = ap (λ (b : Bool). cond b ((task_at sheet o).cost * alpha_of (task_at sheet o).curve l) 0) e
+  class_part : (o : ℕ) → p.class sheet i o ≡ true → class_part_of p sheet i l o ≡ whole o
+  class_part o e = ap (λ (b : Bool). cond b (whole o) 0) e
 
   part_of_class : (o : ℕ) → o < length sheet.tasks → part o ≤ class_part_of p sheet i l o
   part_of_class o b = elim (cases_eq o i) [
     | inl e ↦ subst (λ w. part w ≤ class_part_of p sheet i l w) (sym e) own_part
     | inr ne ↦
-        let curve = (task_at sheet o).curve in
-        let cost = (task_at sheet o).cost in
+        let task = task_at sheet o in
         elim (cases_Bool (p.class sheet i o)) [
-          | inl t ↦ omega (arith, other_part o b ne, class_part o t, mul-le-mul_left cost (count_whole curve (ok.each o b).curve (p.cap sheet i o a) l))
-          | inr f ↦ omega (arith, other_part o b ne, ap (λ (c : Cap). cost * capped_count curve c l) (lawful.cap_class i o a in_range b (λ e. ne (sym e)) f))
+          | inl t ↦ omega (arith, other_part o b ne, class_part o t, mul-le-mul_left task.cost (count_whole task.curve (ok.each o b).curve task.jitter (p.cap sheet i o a) l))
+          | inr f ↦ omega (arith, other_part o b ne, ap (λ (c : Cap). task.cost * capped_count task.curve task.jitter c l) (lawful.cap_class i o a in_range b (λ e. ne (sym e)) f))
         ]
   ]
 
   -- own and other demand are the parts
-  parts_are : (task_at sheet i).cost * alpha_of (task_at sheet i).curve (a + 1) + others_of p sheet i a l ≤ sum_below part (length sheet.tasks)
+  parts_are : own + others_of p sheet i a l ≤ sum_below part (length sheet.tasks)
   unfolding part others_of
-  parts_are = omega (arith, sum_join ((task_at sheet i).cost * alpha_of (task_at sheet i).curve (a + 1)) (λ o. (task_at sheet o).cost * capped_count (task_at sheet o).curve (p.cap sheet i o a) l) (length sheet.tasks) i in_range)
+  parts_are = omega (arith, sum_join own other (length sheet.tasks) i in_range)
 
   -- a blocker that does not delay has no other demand
   blocker_fits : (o : ℕ) → o < length sheet.tasks → o ≢ i → AdmitsNone (p.cap sheet i o a) → sum_below part (length sheet.tasks) + (m.longest (task_at sheet o) - 1) ≤ sum_below (class_part_of p sheet i l) (length sheet.tasks)
   blocker_fits o b ne none =
-      let curve = (task_at sheet o).curve in
-      let cost = (task_at sheet o).cost in
+      let task = task_at sheet o in
       let class : p.class sheet i o ≡ true = elim (cases_Bool (p.class sheet i o)) [
         | inl t ↦ t
         | inr f ↦ absurd (subst AdmitsNone (lawful.cap_class i o a in_range b (λ e. ne (sym e)) f) none)
       ] in
-      sum_gap part (class_part_of p sheet i l) (length sheet.tasks) o (m.longest (task_at sheet o) - 1) b part_of_class
-      (omega (arith, other_part o b ne, class_part o class, ap (λ (w : ℕ). cost * w) (count_none curve (ok.each o b).curve (p.cap sheet i o a) l none), (cut o b).longest_bound, mul-le-mul_left cost (alpha_one curve (ok.each o b).curve l (omega arith))))
+      sum_gap part (class_part_of p sheet i l) (length sheet.tasks) o (m.longest task - 1) b part_of_class
+      (omega (
+        arith,
+        other_part o b ne,
+        class_part o class,
+        ap (λ (w : ℕ). task.cost * w) (count_none task.curve (ok.each o b).curve task.jitter (p.cap sheet i o a) l none),
+        (cut o b).longest_bound,
+        mul-le-mul_left task.cost (alpha_one task.curve (ok.each o b).curve (l + task.jitter) (omega arith)),
+      ))
 
   block_fits : blocking_of p m sheet i a + sum_below part (length sheet.tasks) ≤ max_below (delay_of p m sheet i) (length sheet.tasks) + sum_below (class_part_of p sheet i l) (length sheet.tasks)
   unfolding blocking_of
@@ -166,4 +181,4 @@ module _ (p : PolicyMeaning) (m : CutMeaning) (sheet : SheetParts) (ok : IsValid
 
   pub fits : need_of p m sheet i a l + rest_of m sheet i ≤ window_need_of p m sheet i l
   unfolding need_of own_of window_need_of
-  fits = omega (arith, block_fits, parts_are, mul-le-mul_left (task_at sheet i).cost (alpha_one (task_at sheet i).curve (ok.each i in_range).curve (a + 1) (omega arith)))
+  fits = omega (arith, block_fits, parts_are, mul-le-mul_left (task_at sheet i).cost (alpha_one (task_at sheet i).curve (ok.each i in_range).curve (a + 1 + (task_at sheet i).jitter) (omega arith)))

@@ -1,5 +1,5 @@
 -- What a job at an offset needs is no more than at an earlier offset that no number tells apart from it.
-use Rattle.std.proofs.Common.{◌≡◌, ℕ, zero, suc, ◌+◌, ◌*◌, ◌<◌, ◌≤◌, ◌≢◌, ◌==◌, min, Bool, true, false, cond, not, length, refl, sym, ap, inl, inr, arith, add-suc, add-zero, add-one, eq-eqb}
+use Rattle.std.proofs.Common.{◌≡◌, ℕ, ◌+◌, ◌*◌, ◌<◌, ◌≤◌, ◌≢◌, ◌==◌, min, Bool, true, false, cond, not, length, refl, sym, ap, inl, inr, arith, eq-eqb}
 use Rattle.std.proofs.lemmas.Bool.{cases_lt, and_from, and_parts, eqb-false, ne_eqb, not-true}
 use Rattle.std.proofs.Math.Nat.{mul-le-mul_left}
 use Rattle.lists.proofs.SumFacts.{sum_le, max_at_most}
@@ -31,17 +31,17 @@ same_part curve ok low high x e = elim (cases_lt low x) [
 ]
 
 -- of two caps that admit as many jobs in all, the greater admits no more within x ticks
-count_stays : (curve : Curve) → IsCurve curve → (x : ℕ) (from at : Cap) → GrowsTo from at → cap_count curve from ≡ cap_count curve at →
-    capped_count curve at x ≤ capped_count curve from x
-count_stays curve ok x Nothing Nothing h e = omega arith
-count_stays curve ok x All All h e = omega arith
-count_stays curve ok x (At c) (At d) h e = same_part curve ok (not_below_zero c) (not_below_zero d) x e
-count_stays curve ok x Nothing (At d) h e = absurd h
-count_stays curve ok x Nothing All h e = absurd h
-count_stays curve ok x (At c) Nothing h e = absurd h
-count_stays curve ok x (At c) All h e = absurd h
-count_stays curve ok x All Nothing h e = absurd h
-count_stays curve ok x All (At d) h e = absurd h
+count_stays : (curve : Curve) → IsCurve curve → (jitter x : ℕ) (from at : Cap) → GrowsTo from at → cap_count curve from ≡ cap_count curve at →
+    capped_count curve jitter at x ≤ capped_count curve jitter from x
+count_stays curve ok jitter x Nothing Nothing h e = omega arith
+count_stays curve ok jitter x All All h e = omega arith
+count_stays curve ok jitter x (At c) (At d) h e = same_part curve ok (not_below_zero c) (not_below_zero d) (x + jitter) e
+count_stays curve ok jitter x Nothing (At d) h e = absurd h
+count_stays curve ok jitter x Nothing All h e = absurd h
+count_stays curve ok jitter x (At c) Nothing h e = absurd h
+count_stays curve ok jitter x (At c) All h e = absurd h
+count_stays curve ok jitter x All Nothing h e = absurd h
+count_stays curve ok jitter x All (At d) h e = absurd h
 
 masked_le : (b : Bool) (m n : ℕ) → (b ≡ false → m ≤ n) → cond b 0 m ≤ cond b 0 n
 masked_le true m n h = omega arith
@@ -51,12 +51,8 @@ implied_le : (b c : Bool) (m : ℕ) → (b ≡ true → c ≡ true) → cond b m
 implied_le false c m h = omega arith
 implied_le true c m h = omega (arith, ap (λ (b : Bool). cond b m 0) (h refl))
 
-pub sbf_mono : (sbf : ℕ → ℕ) → ((d : ℕ) → sbf d ≤ sbf (d + 1)) → (d e : ℕ) → sbf d ≤ sbf (d + e)
-sbf_mono sbf rises d zero = rw add-zero (omega arith)
-sbf_mono sbf rises d (suc e) = rw add-suc (omega (arith, sbf_mono sbf rises d e, rw add-one at (rises (d + e))))
-
 module _ (p : PolicyMeaning) (sheet : SheetParts) (i from at : ℕ) (same : IsSame p sheet i from at) where
-  own_same : i < length sheet.tasks → alpha_of (task_at sheet i).curve (from + 1) ≡ alpha_of (task_at sheet i).curve (at + 1)
+  own_same : i < length sheet.tasks → alpha_of (task_at sheet i).curve (from + 1 + (task_at sheet i).jitter) ≡ alpha_of (task_at sheet i).curve (at + 1 + (task_at sheet i).jitter)
   own_same in_range = rw (eq-eqb i i refl) at (same i in_range)
 
   caps_same : (o : ℕ) → o < length sheet.tasks → o ≢ i →
@@ -78,7 +74,7 @@ module _ (p : PolicyMeaning) (m : CutMeaning) (sheet : SheetParts) (ok : IsValid
       let ne : o ≢ i = eqb-false o i f in
       let curve = (task_at sheet o).curve in
       let grows = lawful.cap_grows i o from a in_range b (λ e. ne (sym e)) h in
-      let stays = count_stays curve (ok.each o b).curve x (p.cap sheet i o from) (p.cap sheet i o a) grows (caps_same p sheet i from a same o b ne) in
+      let stays = count_stays curve (ok.each o b).curve (task_at sheet o).jitter x (p.cap sheet i o from) (p.cap sheet i o a) grows (caps_same p sheet i from a same o b ne) in
       mul-le-mul_left (task_at sheet o).cost stays))
 
   pub need_less : (from a x : ℕ) → from ≤ a → IsSame p sheet i from a → need_of p m sheet i a x ≤ need_of p m sheet i from x

@@ -10,23 +10,23 @@ use Rattle.policy.specs.Keys.{not_below_zero}
 use Rattle.policy.specs.PolicyMeaning.{PolicyMeaning}
 use Rattle.preemption.specs.CutMeaning.{CutMeaning}
 
--- how many jobs of the curve may arrive within x ticks and the cap
-abbrev pub capped_count : Curve → Cap → ℕ → ℕ
-capped_count curve Nothing x = 0
-capped_count curve (At c) x = alpha_of curve (min x (not_below_zero c))
-capped_count curve All x = alpha_of curve x
+-- how many jobs of the curve, with this jitter, may be released within x ticks and arrive within the cap
+abbrev pub capped_count : Curve → ℕ → Cap → ℕ → ℕ
+capped_count curve jitter Nothing x = 0
+capped_count curve jitter (At c) x = alpha_of curve (min (x + jitter) (not_below_zero c))
+capped_count curve jitter All x = alpha_of curve (x + jitter)
 
 -- what is left of a job of task i once it is not cut any more
 abbrev pub rest_of : CutMeaning → SheetParts → ℕ → ℕ
 rest_of m sheet i = (task_at sheet i).cost - m.threshold (task_at sheet i)
 
--- the demand of task i itself, up to a job that arrives at offset a, less that rest
+-- the demand of task i itself, up to a job that is released at offset a, less that rest
 unfoldable pub own_of : CutMeaning → SheetParts → ℕ → ℕ → ℕ
-own_of m sheet i a = (task_at sheet i).cost * alpha_of (task_at sheet i).curve (a + 1) - rest_of m sheet i
+own_of m sheet i a = (task_at sheet i).cost * alpha_of (task_at sheet i).curve (a + 1 + (task_at sheet i).jitter) - rest_of m sheet i
 
 -- the demand of one other task within x ticks
 abbrev pub other_of : PolicyMeaning → SheetParts → ℕ → ℕ → ℕ → ℕ → ℕ
-other_of p sheet i a x o = cond (o == i) 0 ((task_at sheet o).cost * capped_count (task_at sheet o).curve (p.cap sheet i o a) x)
+other_of p sheet i a x o = cond (o == i) 0 ((task_at sheet o).cost * capped_count (task_at sheet o).curve (task_at sheet o).jitter (p.cap sheet i o a) x)
 
 -- the demand of the other tasks within x ticks
 unfoldable pub others_of : PolicyMeaning → SheetParts → ℕ → ℕ → ℕ → ℕ
@@ -50,7 +50,7 @@ delay_of p m sheet i o = cond (not (o == i) && p.may_delay sheet i o) (m.longest
 
 -- the demand of a task of the class within l ticks
 abbrev pub class_part_of : PolicyMeaning → SheetParts → ℕ → ℕ → ℕ → ℕ
-class_part_of p sheet i l o = cond (p.class sheet i o) ((task_at sheet o).cost * alpha_of (task_at sheet o).curve l) 0
+class_part_of p sheet i l o = cond (p.class sheet i o) ((task_at sheet o).cost * alpha_of (task_at sheet o).curve (l + (task_at sheet o).jitter)) 0
 
 -- the demand of the whole class of task i within l ticks
 unfoldable pub window_need_of : PolicyMeaning → CutMeaning → SheetParts → ℕ → ℕ → ℕ

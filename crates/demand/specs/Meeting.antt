@@ -1,10 +1,15 @@
--- K3 to K8 for one task: its window, and the ends and offsets at which its bound is judged.
+-- K2 to K8 for one task: its window, and the ends and offsets at which its bound is judged.
 use Rattle.std.specs.Prelude.{◌≡◌, ℕ, ◌+◌, ◌-◌, ◌<◌, ◌≤◌, Option, Some, None, List, [], ◌∷◌}
 use Rattle.task_sheet.specs.SheetParts.{SheetParts}
+use Rattle.task_sheet.specs.Sheets.{task_at}
 use Rattle.policy.specs.PolicyMeaning.{PolicyMeaning}
 use Rattle.preemption.specs.CutMeaning.{CutMeaning}
 use Rattle.demand.specs.Demand.{need_of, rest_of, window_need_of}
 use Rattle.policy.specs.Offsets.{IsSame}
+
+-- K2: the bound covers the jitter
+abbrev pub CoversJitter : SheetParts → ℕ → ℕ → Type 0
+CoversJitter sheet i bound = (task_at sheet i).jitter ≤ bound
 
 -- K3: the supply of the window covers the demand of the task's class within it
 pub record IsWindow (p : PolicyMeaning) (m : CutMeaning) (sbf : ℕ → ℕ) (sheet : SheetParts) (i window : ℕ) : Type 0 where
@@ -15,15 +20,25 @@ pub record IsWindow (p : PolicyMeaning) (m : CutMeaning) (sbf : ℕ → ℕ) (sh
 pub record MeetsEnd (p : PolicyMeaning) (m : CutMeaning) (sbf : ℕ → ℕ) (sheet : SheetParts) (i a x : ℕ) : Type 0 where
   pub enough : need_of p m sheet i a x ≤ sbf x
 
--- K6 and K8: the end lies within the bound, and the supply up to the bound covers the rest of the job too
+-- K6 and K8: the end lies within the bound, and the supply up to the bound covers the rest of the job too;
+-- the bound counts from the arrival, the offset from the release, by the jitter later
 pub record MeetsBound (p : PolicyMeaning) (m : CutMeaning) (sbf : ℕ → ℕ) (sheet : SheetParts) (i a x bound : ℕ) : Type 0 where
-  pub end : x ≤ a + bound
-  pub enough : need_of p m sheet i a x + rest_of m sheet i ≤ sbf (a + bound)
+  pub end : x + (task_at sheet i).jitter ≤ a + bound
+  pub enough : need_of p m sheet i a x + rest_of m sheet i ≤ sbf (a + bound - (task_at sheet i).jitter)
+
+-- K2, K6 and K8
+pub record BoundMeets (p : PolicyMeaning) (m : CutMeaning) (sbf : ℕ → ℕ) (sheet : SheetParts) (i a x bound : ℕ) : Type 0 where
+  pub covers : CoversJitter sheet i bound
+  pub within : MeetsBound p m sbf sheet i a x bound
 
 -- K6 to K8 at offset a
 pub record MeetsAt (p : PolicyMeaning) (m : CutMeaning) (sbf : ℕ → ℕ) (sheet : SheetParts) (i bound a x : ℕ) : Type 0 where
   pub end : MeetsEnd p m sbf sheet i a x
   pub within : MeetsBound p m sbf sheet i a x bound
+
+-- each offset below the window has an end that meets K6 to K8
+abbrev pub EveryOffset : PolicyMeaning → CutMeaning → (ℕ → ℕ) → SheetParts → ℕ → ℕ → ℕ → Type 0
+EveryOffset p m sbf sheet i window bound = (a : ℕ) → a < window → (x : ℕ) × MeetsAt p m sbf sheet i bound a x
 
 -- K4, without the window: the first offset is 0, and each other is greater than the one before
 abbrev pub ComesNext : Option ℕ → ℕ → Type 0

@@ -5,5 +5,5 @@ mod laws;
 mod needs;
 mod parts;
 
-pub use laws::{demand_grows, need_fits};
+pub use laws::{demand_grows, need_falls, need_fits};
 pub use needs::{blocking, need, others, own, rest, window_need};

@@ -21,17 +21,18 @@ pub fn rest<M: Preemption>(sheet: &Sheet, i: u32) -> u64
     task.cost - M::threshold(task)
 }
 
-/// The demand of task `i` itself, in ticks, up to a job that arrives `a` ticks into its window and
-/// to where that job is not cut any more.
-#[tactic(auto, using(crate::proofs::DemandFacts::rest_fits), unfolding(crate::specs::Demand::own_of))]
+/// The demand of task `i` itself, in ticks, up to a job that is released `a` ticks into its
+/// window and to where that job is not cut any more.
+#[tactic(auto, using(crate::proofs::DemandFacts::rest_fits, task_sheet::specs::Limits::jitter_high), unfolding(crate::specs::Demand::own_of))]
 pub fn own<M: Preemption>(sheet: &Sheet, i: u32, a: u64) -> u128
     requires task { i < length sheet.now.tasks }
     requires offset { a ≤ 1000000000 }
     requires served { Serves M.cuts sheet.now }
     ensures exact { result ≡ own_of M.cuts sheet.now i a }
-    ensures bound { result ≤ 2 ^ 80 }
+    ensures bound { result ≤ 2 ^ 81 }
 {
-    asked(sheet.task(i), a + 1) - rest::<M>(sheet, i) as u128
+    let task = sheet.task(i);
+    asked(task, a + 1 + task.jitter) - rest::<M>(sheet, i) as u128
 }
 
 /// The demand of the other tasks, in ticks, within `x` ticks of the window's begin.
@@ -53,7 +54,7 @@ pub fn others<P: Policy>(sheet: &Sheet, i: u32, a: u64, x: u64) -> u128
 }
 
 /// The longest, in ticks, that a segment that began before the window can block a job of task `i`
-/// that arrives `a` ticks into it.
+/// that is released `a` ticks into it.
 #[tactic(auto, unfolding(crate::specs::Demand::blocking_of))]
 pub fn blocking<P: Policy, M: Preemption>(sheet: &Sheet, i: u32, a: u64) -> u128
     requires task { i < length sheet.now.tasks }
@@ -69,8 +70,8 @@ pub fn blocking<P: Policy, M: Preemption>(sheet: &Sheet, i: u32, a: u64) -> u128
     longest as u128
 }
 
-/// The demand of a job of task `i` that arrives `a` ticks into its window, in ticks, within `x`
-/// ticks of the window's begin.
+/// The demand of a job of task `i` that is released `a` ticks into its window, in ticks, within
+/// `x` ticks of the window's begin.
 #[tactic(auto, unfolding(crate::specs::Demand::need_of))]
 pub fn need<P: Policy, M: Preemption>(sheet: &Sheet, i: u32, a: u64, x: u64) -> u128
     requires task { i < length sheet.now.tasks }
@@ -98,6 +99,7 @@ fn longest_delay<P: Policy, M: Preemption>(sheet: &Sheet, i: u32) -> u64
 }
 
 /// The demand of the class of task `i`, in ticks, within `l` ticks.
+#[tactic(auto, using(task_sheet::specs::Limits::jitter_high))]
 fn class_demand<P: Policy>(sheet: &Sheet, i: u32, l: u64) -> u128
     requires task { i < length sheet.now.tasks }
     requires window { l ≤ 1000000000 }
@@ -107,7 +109,8 @@ fn class_demand<P: Policy>(sheet: &Sheet, i: u32, l: u64) -> u128
     let mut sum = 0;
     for o in 0..sheet.len() {
         if P::class(sheet, i, o) {
-            sum += asked(sheet.task(o), l);
+            let task = sheet.task(o);
+            sum += asked(task, l + task.jitter);
         }
     }
     sum

@@ -12,27 +12,30 @@ use task_sheet::{Sheet, Task};
 /// The ticks that the jobs of a task can ask for in a window of `d` ticks.
 pub fn asked(task: &Task, d: u64) -> u128
     requires valid { IsTask task.now }
-    requires window { d ≤ 1000000001 }
+    requires window { d ≤ 2000000001 }
     ensures exact { result ≡ task.now.cost * alpha_of task.now.curve d }
-    ensures bound { result ≤ 2 ^ 80 }
+    ensures bound { result ≤ 2 ^ 81 }
 {
     task.cost as u128 * task.curve.at(d)
 }
 
-/// The ticks that the jobs of a task can ask for within `x` ticks and a cap.
+/// The ticks that those jobs of a task can ask for that are released within `x` ticks and arrive
+/// within the cap.
+#[tactic(auto, using(task_sheet::specs::Limits::jitter_high))]
 pub fn asked_within(task: &Task, cap: Cap, x: u64) -> u128
     requires valid { IsTask task.now }
     requires window { x ≤ 1000000000 }
-    ensures exact { result ≡ task.now.cost * capped_count task.now.curve cap x }
-    ensures bound { result ≤ 2 ^ 80 }
+    ensures exact { result ≡ task.now.cost * capped_count task.now.curve task.now.jitter cap x }
+    ensures bound { result ≤ 2 ^ 81 }
 {
+    let released = x + task.jitter;
     match cap {
         Cap::Nothing => 0,
         Cap::At(c) => {
-            let within = if c <= 0 { 0 } else { x.min(c as u64) };
+            let within = if c <= 0 { 0 } else { released.min(c as u64) };
             asked(task, within)
         }
-        Cap::All => asked(task, x),
+        Cap::All => asked(task, released),
     }
 }
 
@@ -47,7 +50,7 @@ fn begun<M: Preemption>(sheet: &Sheet, o: u32) -> u64
 }
 
 /// How long, in ticks, a segment of task `o` that began before the window can block a job of task
-/// `i` that arrives `a` ticks into it.
+/// `i` that is released `a` ticks into it.
 pub fn block<P: Policy, M: Preemption>(sheet: &Sheet, i: u32, a: u64, o: u32) -> u64
     requires i { i < length sheet.now.tasks }
     requires o { o < length sheet.now.tasks }

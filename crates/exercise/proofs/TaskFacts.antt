@@ -7,11 +7,14 @@ use Rattle.std.proofs.lemmas.Fmt.{decimal_by_steps, length-decimal-le, decimal_i
 use Rattle.std.proofs.lemmas.List.Folds.{list_all-append}
 use Rattle.std.proofs.lemmas.Nat.{mod_below}
 use Rattle.lists.specs.Ranges.{is_between}
+use Rattle.curve.specs.Curves.{periodic}
 use Rattle.curve.specs.Validity.{IsCurve}
-use Rattle.task_sheet.specs.Rules.{is_name, is_positive, are_positive}
+use Rattle.task_sheet.specs.Limits.{no_point}
+use Rattle.task_sheet.specs.Rules.{is_name, is_in_range, are_in_range}
+use Rattle.task_sheet.specs.Limits.{no_point}
 use Rattle.task_sheet.specs.Sheets.{CutFits, IsTask}
 use Rattle.task_sheet.proofs.RuleFacts.{positive_from}
-use Rattle.exercise.specs.GeneratedSheet.{halves, cut_by, curve_of, task_by}
+use Rattle.exercise.specs.GeneratedSheet.{halves, cut_by, task_by}
 
 pub between : (low high n : ℕ) → low ≤ n → n ≤ high → is_between low high n ≡ true
 between low high n l h = and_from _ _ (le-leb low n l) (le-leb n high h)
@@ -20,14 +23,15 @@ between low high n l h = and_from _ _ (le-leb low n l) (le-leb n high h)
 printable : (n : ℕ) → n < 2 ^ 64 → list_all (is_between 33 126) (decimal n) ≡ true
 printable = decimal_by_steps (λ n ds. list_all (is_between 33 126) ds ≡ true)
     (λ n l. and_from _ _ (between 33 126 (48 + n) (omega arith) (omega arith)) refl)
-    (λ n ds l h. list_all-append (is_between 33 126) ds ((48 + n % 10) ∷ []) ∙ and_from _ _ h (and_from _ _ (between 33 126 (48 + n % 10) (omega arith) (omega (arith, mod_below n 10 (omega arith)))) refl))
+    (λ n ds l h. list_all-append (is_between 33 126) ds ((48 + n % 10) ∷ []) ∙ and_from _ _ h
+    (and_from _ _ (between 33 126 (48 + n % 10) (omega arith) (omega (arith, mod_below n 10 (omega arith)))) refl))
 
 name_fits : (i : ℕ) → i < 64 → is_name (116 ∷ decimal i) ≡ true
 name_fits i l =
     let short : length (decimal i) ≤ 2 = length-decimal-le 2 i (omega arith) (omega arith) (omega arith) in
     and_from _ _ (between 1 32 (length (116 ∷ decimal i)) (omega arith) (omega arith)) (and_from _ _ (between 33 126 116 (omega arith) (omega arith)) (printable i (omega arith)))
 
-pub curve_valid : (period : ℕ) → 1 ≤ period → period ≤ 1000000000 → IsCurve (curve_of period)
+pub curve_valid : (period : ℕ) → 1 ≤ period → period ≤ 1000000000 → IsCurve (periodic period)
 curve_valid period l h = record {
   horizon_low = l;
   horizon_high = h;
@@ -38,12 +42,12 @@ curve_valid period l h = record {
   within = l;
 }
 
-halves_fit : (cost : ℕ) → 1 ≤ cost → cost ≤ 1000000000 → (are_positive 1000 (halves cost) ≡ true) × (sum (halves cost) ≡ cost)
+halves_fit : (cost : ℕ) → 1 ≤ cost → cost ≤ 1000000000 → (are_in_range 1000 (halves cost) ≡ true) × (sum (halves cost) ≡ cost)
 halves_fit cost l h = elim (cases_eq cost 1) [
   | inl e ↦ rw (eq-eqb cost 1 e) (refl, sym e)
   | inr ne ↦
-      let first : is_positive (cost / 2) ≡ true = positive_from (cost / 2) (omega arith) (omega arith) in
-      let second : is_positive (cost - cost / 2) ≡ true = positive_from (cost - cost / 2) (omega arith) (omega arith) in
+      let first : is_in_range (cost / 2) ≡ true = positive_from (cost / 2) (omega arith) (omega arith) in
+      let second : is_in_range (cost - cost / 2) ≡ true = positive_from (cost - cost / 2) (omega arith) (omega arith) in
       rw (ne_eqb cost 1 ne) (and_from _ _ refl (and_from _ _ first (and_from _ _ second refl)), omega arith)
 ]
 
@@ -67,6 +71,8 @@ task_valid i period cost b l h d g = record {
   deadline_low = l;
   deadline_high = h;
   priority_high = omega arith;
+  jitter_high = omega arith;
+  point = no_point;
   curve = curve_valid period l h;
   cut = cut_fits (i % 4) cost d g;
 }

@@ -1,6 +1,6 @@
 -- The sheet that a seed makes.
-use Rattle.std.specs.Prelude.{ℕ, zero, suc, ◌+◌, ◌-◌, ◌*◌, ◌/◌, ◌%◌, ◌==◌, List, [], ◌∷◌, ◌++◌, cond, codes, decimal}
-use Rattle.curve.specs.CurveValue.{Curve}
+use Rattle.std.specs.Prelude.{ℕ, pos, zero, suc, ◌+◌, ◌-◌, ◌*◌, ◌/◌, ◌%◌, ◌==◌, List, [], ◌∷◌, ◌++◌, cond, codes, decimal}
+use Rattle.curve.specs.Curves.{periodic}
 use Rattle.task_sheet.specs.declared.tasks.PolicyKind.TheVariants.{Edf}
 use Rattle.task_sheet.specs.declared.tasks.SupplySpec.TheVariants.{Unit as Whole}
 use Rattle.task_sheet.specs.declared.tasks.Cut.{Cut}
@@ -30,10 +30,6 @@ halves cost = cond (cost == 1) (1 ∷ []) (cost / 2 ∷ (cost - cost / 2) ∷ []
 abbrev pub cut_by : ℕ → ℕ → Cut
 cut_by turn cost = cond (turn == 0) Full (cond (turn == 1) Never (cond (turn == 2) (Fixed (halves cost)) (Floating ((cost + 1) / 2))))
 
--- one job in each period
-abbrev pub curve_of : ℕ → Curve
-curve_of period = record { horizon = period; steps = record { time = 1; value = 1 } ∷ [] }
-
 -- task i, with this period and this cost
 abbrev pub task_by : ℕ → ℕ → ℕ → Task
 task_by i period cost = record {
@@ -41,7 +37,9 @@ task_by i period cost = record {
   cost = cost;
   deadline = period;
   priority = 0;
-  curve = curve_of period;
+  jitter = 0;
+  point = pos 0;
+  curve = periodic period;
   cut = cut_by (i % 4) cost;
 }
 

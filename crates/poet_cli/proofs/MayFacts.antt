@@ -1,5 +1,7 @@
 -- Which refusals a command can give.
 use Rattle.std.proofs.Common.{◌≡◌, ◌≢◌, ◌⊎◌, ◌↔◌, inl, inr, ℕ, Bool, List, Option, Some, None, Result, Ok, Err, IsOk, IfErr, refl, sym, subst, ◌∙◌}
+use Rattle.poet_io.specs.declared.text_refusal.TextRefusal.{TextRefusal}
+use Rattle.poet_io.specs.declared.text_refusal.TextRefusal.TheVariants as texts
 use Rattle.poet_io.specs.Shelves.{Files, IfTold}
 use Rattle.poet_io.proofs.Telling.{if_told_map}
 use Rattle.task_sheet.specs.SheetParts.{SheetParts}
@@ -7,14 +9,10 @@ use Rattle.task_sheet.specs.Sheets.{task_at}
 use Rattle.task_sheet.specs.declared.refusal.SheetRefusal.{SheetRefusal}
 use Rattle.task_sheet.specs.declared.refusal.SheetRefusal.TheVariants as sheets
 use Rattle.certificate.specs.declared.cert.Cert.{Cert}
-use Rattle.certificate.specs.declared.refusal.CertRefusal.{CertRefusal}
-use Rattle.certificate.specs.declared.refusal.CertRefusal.TheVariants as certs
 use Rattle.cert_check.specs.declared.judging.Verdict.{Verdict}
 use Rattle.cert_check.specs.declared.judging.Verdict.TheVariants as verdict
 use Rattle.certificate.specs.Parsing.{cert_of_text}
 use Rattle.run_model.specs.declared.run.Run.{Run}
-use Rattle.run_text.specs.declared.refusal.RunRefusal.{RunRefusal}
-use Rattle.run_text.specs.declared.refusal.RunRefusal.TheVariants as runs
 use Rattle.run_text.specs.Parsing.{run_of_text}
 use Rattle.simulator.specs.declared.refusal.SimRefusal.{SimRefusal}
 use Rattle.simulator.specs.declared.refusal.SimRefusal.TheVariants as simulator
@@ -101,15 +99,15 @@ module _ (IsRead : Source → Type 0) (IsOwn : Refusal → Type 0) where
   judged_refusal is sheet (verdict.Refused failed) refusal e = absurd (cc)
   judged_refusal is sheet (verdict.Text line) refusal e = let same : Text source.Certificate line ≡ refusal = cc in subst May same (is, λ s. absurd (cc))
 
-  cert_refusal : IsRead source.Certificate → (read : Result Cert CertRefusal) (print : Cert → Printed) (refusal : Refusal) → next (cert_read read) (λ cert. Ok (print cert)) ≡ Err refusal → May refusal
+  cert_refusal : IsRead source.Certificate → (read : Result Cert TextRefusal) (print : Cert → Printed) (refusal : Refusal) → next (cert_read read) (λ cert. Ok (print cert)) ≡ Err refusal → May refusal
   cert_refusal is (Ok cert) print refusal e = absurd (cc)
-  cert_refusal is (Err (certs.Text line)) print refusal e = let same : Text source.Certificate line ≡ refusal = cc in subst May same (is, λ s. absurd (cc))
-  cert_refusal is (Err certs.Memory) print refusal e = let same : Memory ≡ refusal = cc in subst May same tt
+  cert_refusal is (Err (texts.Line line)) print refusal e = let same : Text source.Certificate line ≡ refusal = cc in subst May same (is, λ s. absurd (cc))
+  cert_refusal is (Err texts.Memory) print refusal e = let same : Memory ≡ refusal = cc in subst May same tt
 
-  run_refusal : IsRead source.Run → (read : Result Run RunRefusal) (print : Run → Printed) (refusal : Refusal) → next (run_read read) (λ run. Ok (print run)) ≡ Err refusal → May refusal
+  run_refusal : IsRead source.Run → (read : Result Run TextRefusal) (print : Run → Printed) (refusal : Refusal) → next (run_read read) (λ run. Ok (print run)) ≡ Err refusal → May refusal
   run_refusal is (Ok run) print refusal e = absurd (cc)
-  run_refusal is (Err (runs.Text line)) print refusal e = let same : Text source.Run line ≡ refusal = cc in subst May same (is, λ s. absurd (cc))
-  run_refusal is (Err runs.Memory) print refusal e = let same : Memory ≡ refusal = cc in subst May same tt
+  run_refusal is (Err (texts.Line line)) print refusal e = let same : Text source.Run line ≡ refusal = cc in subst May same (is, λ s. absurd (cc))
+  run_refusal is (Err texts.Memory) print refusal e = let same : Memory ≡ refusal = cc in subst May same tt
 
   module _ (is : IsRead source.Sheet) (name : List ℕ) (Ends : SheetParts → Ending → Type 0) (before now : ShelfAt) (refusal : Refusal) (may : (parts : SheetParts) → Ends parts (Err refusal) → May refusal) where
     may_one_by : (gave : Result SheetParts Refusal) → ReadsSheet name before now gave → After Ends gave (Err refusal) → May refusal
@@ -139,7 +137,7 @@ module _ (sheet_name : List ℕ) (which : Source) (name : List ℕ) (Ends : Shee
 
 analysed_refusal : (sheet : SheetParts) (r : Result Cert AnalyseRefusal) (refusal : Refusal) → analysed_by sheet r ≡ Err refusal → MayRefuse IsSheet IsPointsRefusal refusal
 analysed_refusal sheet (Ok cert) refusal e = absurd (cc)
-analysed_refusal sheet (Err (solver.NoBound i)) refusal e = absurd (cc)
+analysed_refusal sheet (Err (solver.NoBound i part)) refusal e = absurd (cc)
 analysed_refusal sheet (Err (solver.Points i)) refusal e = let same : Points (task_at sheet i).name ≡ refusal = cc in subst (MayRefuse IsSheet IsPointsRefusal) same ((task_at sheet i).name, refl)
 analysed_refusal sheet (Err solver.Memory) refusal e = let same : Memory ≡ refusal = cc in subst (MayRefuse IsSheet IsPointsRefusal) same tt
 

@@ -10,6 +10,7 @@ use Rattle.certificate.specs.declared.cert.Cert.{Cert}
 use Rattle.certificate.specs.Text.{IsWithinGrammar, text_of}
 use Rattle.cert_check.specs.declared.judging.Verdict.TheVariants as verdict
 use Rattle.cert_check.specs.Verdicts.{bounds_of, verdict_of, AreSound}
+use Rattle.solver.specs.declared.analysis.Part.{Part}
 use Rattle.solver.specs.declared.analysis.AnalyseRefusal.{AnalyseRefusal}
 use Rattle.solver.specs.declared.analysis.AnalyseRefusal.TheVariants as solver
 use Rattle.solver.specs.Best.{IsUpTo, NoneSmaller, NoneMeets, NoneWhereNoBound}
@@ -31,7 +32,7 @@ pub record IsBestBy (p : PolicyMeaning) (sheet : SheetParts) (horizon : ℕ) (ce
   pub sound : AreSound p per_task_meaning (sbf_of sheet.supply) sheet false (bounds_of cert)
   pub least : NoneSmaller p per_task_meaning (sbf_of sheet.supply) sheet cert
 
--- where a task has no bound, no certificate with numbers up to the horizon meets the conditions
+-- where a task has no bound, no certificate with numbers up to the horizon and a point in each entry meets the conditions
 abbrev pub IsNoneBy : PolicyMeaning → SheetParts → ℕ → AnalyseRefusal → Type 0
 IsNoneBy p sheet horizon refusal = NoneWhereNoBound p per_task_meaning (sbf_of sheet.supply) sheet horizon refusal
 
@@ -47,10 +48,11 @@ pub record BestHolds (sheet : SheetParts) (horizon : ℕ) (text : List ℕ) : Ty
   pub checks : Checks sheet cert
   pub printed : text ≡ text_of cert
 
--- no certificate with numbers up to the horizon meets the conditions, by the sheet's own policy; and the text
--- names a task that has no bound
+-- no certificate with numbers up to the horizon and a point in each entry meets the conditions, by the sheet's own
+-- policy; and the text names a task that has no bound, and for want of which part
 pub record NoneHolds (sheet : SheetParts) (horizon : ℕ) (text : List ℕ) : Type 0 where
   pub task : ℕ
-  pub no_bound : best_for sheet horizon ≡ Err (solver.NoBound task)
+  pub part : Part
+  pub no_bound : best_for sheet horizon ≡ Err (solver.NoBound task part)
   pub none : NoneMeets (meaning_of sheet.policy) per_task_meaning (sbf_of sheet.supply) sheet horizon
-  pub printed : text ≡ no_bound_text (task_at sheet task).name
+  pub printed : text ≡ no_bound_text (task_at sheet task).name part

@@ -2,15 +2,15 @@
 use Rattle.std.specs.Prelude.{◌≡◌, ℕ, Bool, false, List, length, Option, Some, None}
 use Rattle.poet_io.specs.declared.log.Event.{Event}
 use Rattle.poet_io.specs.Shelves.{Files}
+use Rattle.poet_io.specs.Texts.{Parses}
 use Rattle.task_sheet.specs.SheetParts.{SheetParts}
 use Rattle.certificate.specs.declared.cert.Cert.{Cert}
-use Rattle.certificate.specs.Text.{Parses}
+use Rattle.certificate.specs.Text.{cert_format}
 use Rattle.policy.specs.Policies.{meaning_of}
 use Rattle.preemption.specs.Kinds.{per_task_meaning}
 use Rattle.supply.specs.Promises.{sbf_of}
 use Rattle.run_model.specs.declared.run.Run.{Run}
-use Rattle.run_text.specs.Reading.{Parses as IsRunText}
-use Rattle.run_text.specs.Text.{text_of as run_text_of}
+use Rattle.run_text.specs.Text.{run_format, text_of as run_text_of}
 use Rattle.schedule_laws.specs.Compliance.{IsCompliant}
 use Rattle.schedule_laws.specs.Bounded.{AreBounded}
 use Rattle.simulated_run.specs.declared.mode.Mode.{Mode}
@@ -39,7 +39,7 @@ accepted_for sheet cert = accepted_text sheet (bounds_of cert)
 -- same holds of the tasks' deadlines; and the text is printed of this certificate
 pub record BoundsHold (sheet : SheetParts) (deadlines : Bool) (print : SheetParts → Cert → List ℕ) (bytes text : List ℕ) : Type 0 where
   pub cert : Cert
-  pub reads : Parses bytes cert
+  pub reads : Parses cert_format bytes cert
   pub count : length cert.entries ≡ length sheet.tasks
   pub bounded : AreBounded (meaning_of sheet.policy) per_task_meaning (sbf_of sheet.supply) sheet (bounds_of cert)
   pub in_time : AreInTime (meaning_of sheet.policy) per_task_meaning (sbf_of sheet.supply) sheet deadlines
@@ -59,7 +59,7 @@ pub record SimulationHolds (sheet : SheetParts) (mode : Mode) (ticks : ℕ) (tex
 -- the bytes are a run, and it complies with the sheet; and the text tells what is seen in it
 pub record RunHolds (sheet : SheetParts) (bytes text : List ℕ) : Type 0 where
   pub run : Run
-  pub reads : IsRunText bytes run
+  pub reads : Parses run_format bytes run
   pub complies : RunComplies sheet run
   pub printed : audit_print sheet (audit_for sheet run) ≡ printed.Done text
 

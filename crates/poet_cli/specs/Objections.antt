@@ -2,16 +2,17 @@
 use Rattle.std.specs.Prelude.{◌≡◌, ℕ, Bool, false, List, Option, Some, None}
 use Rattle.poet_io.specs.declared.log.Event.{Event}
 use Rattle.poet_io.specs.Shelves.{Files}
+use Rattle.poet_io.specs.Texts.{Parses}
 use Rattle.task_sheet.specs.SheetParts.{SheetParts}
 use Rattle.policy.specs.Policies.{meaning_of}
 use Rattle.preemption.specs.Kinds.{per_task_meaning}
 use Rattle.supply.specs.Promises.{sbf_of}
 use Rattle.certificate.specs.declared.cert.Cert.{Cert}
-use Rattle.certificate.specs.Text.{Parses}
+use Rattle.certificate.specs.Text.{cert_format}
 use Rattle.conditions.specs.declared.failed.Failed.{Failed}
 use Rattle.conditions.specs.Conditions.{failed_of}
 use Rattle.run_model.specs.declared.run.Run.{Run}
-use Rattle.run_text.specs.Reading.{Parses as IsRunText}
+use Rattle.run_text.specs.Text.{run_format}
 use Rattle.schedule_laws.specs.Compliance.{IsCompliant}
 use Rattle.poet_cli.specs.declared.printed.Printed.TheVariants as printed
 use Rattle.poet_cli.specs.declared.refusal.Source.TheVariants as source
@@ -31,7 +32,7 @@ pub record Fails (sheet : SheetParts) (deadlines : Bool) (cert : Cert) (text : L
 -- the bytes are a certificate, and it fails to meet a condition
 pub record CertificateFails (sheet : SheetParts) (deadlines : Bool) (bytes text : List ℕ) : Type 0 where
   pub cert : Cert
-  pub reads : Parses bytes cert
+  pub reads : Parses cert_format bytes cert
   pub failing : Fails sheet deadlines cert text
 
 -- the run does not comply with the sheet
@@ -41,7 +42,7 @@ RunBreaks sheet run = IsCompliant (meaning_of sheet.policy) per_task_meaning (sb
 -- the bytes are a run, and it does not comply with the sheet; and the text tells the first broken rule
 pub record RunFails (sheet : SheetParts) (bytes text : List ℕ) : Type 0 where
   pub run : Run
-  pub reads : IsRunText bytes run
+  pub reads : Parses run_format bytes run
   pub breaks : RunBreaks sheet run
   pub printed : audit_print sheet (audit_for sheet run) ≡ printed.JudgedNo text
 

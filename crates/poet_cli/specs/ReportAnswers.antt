@@ -1,12 +1,12 @@
 -- The answers of reports.
 use Rattle.std.specs.Prelude.{ℕ, false, List, Option, Some, None, Result, Ok, Err}
+use Rattle.poet_io.specs.declared.text_refusal.TextRefusal.{TextRefusal}
+use Rattle.poet_io.specs.declared.text_refusal.TextRefusal.TheVariants as texts
 use Rattle.task_sheet.specs.SheetParts.{SheetParts}
 use Rattle.policy.specs.Policies.{meaning_of}
 use Rattle.preemption.specs.Kinds.{per_task_meaning}
 use Rattle.supply.specs.Promises.{sbf_of}
 use Rattle.certificate.specs.declared.cert.Cert.{Cert}
-use Rattle.certificate.specs.declared.refusal.CertRefusal.{CertRefusal}
-use Rattle.certificate.specs.declared.refusal.CertRefusal.TheVariants as certs
 use Rattle.certificate.specs.Parsing.{cert_of_text}
 use Rattle.conditions.specs.declared.failed.Failed.{Failed}
 use Rattle.conditions.specs.Conditions.{failed_of}
@@ -22,10 +22,10 @@ use Rattle.poet_cli.specs.declared.printed.Printed.TheVariants.{Done, JudgedNo}
 use Rattle.poet_cli.specs.Endings.{Ending, next}
 use Rattle.poet_cli.specs.Printing.{refused_text}
 
-abbrev pub cert_read : Result Cert CertRefusal → Result Cert Refusal
+abbrev pub cert_read : Result Cert TextRefusal → Result Cert Refusal
 cert_read (Ok cert) = Ok cert
-cert_read (Err (certs.Text line)) = Err (Text source.Certificate line)
-cert_read (Err certs.Memory) = Err Memory
+cert_read (Err (texts.Line line)) = Err (Text source.Certificate line)
+cert_read (Err texts.Memory) = Err Memory
 
 -- the bytes of a report
 abbrev pub report_of : Form → SheetParts → Cert → List ℕ

@@ -1,12 +1,12 @@
 -- The answers of the commands over runs.
 use Rattle.std.specs.Prelude.{◌≡◌, ℕ, List, Result, Ok, Err}
+use Rattle.poet_io.specs.declared.text_refusal.TextRefusal.{TextRefusal}
+use Rattle.poet_io.specs.declared.text_refusal.TextRefusal.TheVariants as texts
 use Rattle.task_sheet.specs.SheetParts.{SheetParts}
 use Rattle.policy.specs.Policies.{meaning_of}
 use Rattle.preemption.specs.Kinds.{per_task_meaning}
 use Rattle.supply.specs.Promises.{sbf_of}
 use Rattle.run_model.specs.declared.run.Run.{Run}
-use Rattle.run_text.specs.declared.refusal.RunRefusal.{RunRefusal}
-use Rattle.run_text.specs.declared.refusal.RunRefusal.TheVariants as runs
 use Rattle.run_text.specs.Text.{text_of}
 use Rattle.run_text.specs.Parsing.{run_of_text}
 use Rattle.simulated_run.specs.declared.mode.Mode.{Mode}
@@ -37,10 +37,10 @@ simulated_by (Err simulator.Memory) = Err Memory
 abbrev pub simulate_by : Mode → ℕ → SheetParts → Ending
 simulate_by mode ticks sheet = simulated_by (simulation_of (world_for sheet mode) ticks)
 
-abbrev pub run_read : Result Run RunRefusal → Result Run Refusal
+abbrev pub run_read : Result Run TextRefusal → Result Run Refusal
 run_read (Ok run) = Ok run
-run_read (Err (runs.Text line)) = Err (Text source.Run line)
-run_read (Err runs.Memory) = Err Memory
+run_read (Err (texts.Line line)) = Err (Text source.Run line)
+run_read (Err texts.Memory) = Err Memory
 
 -- the verdict on a run, by the sheet's own policy, preemption and supply
 abbrev pub audit_for : SheetParts → Run → AuditVerdict

@@ -19,11 +19,11 @@ use crate::reading::{read_file, sheet_at};
 use crate::refusal::{Refusal, Source};
 use crate::run_printing::print_of;
 use audit::{AuditVerdict, audit};
-use poet_io::Shelf;
+use poet_io::{Shelf, TextRefusal};
 use policy::{Edf, Fifo, Fp};
 use preemption::PerTask;
 use run_model::Run;
-use run_text::{RunRefusal, read_run};
+use run_text::read_run;
 use std::alloc::{AllocError, Global};
 use task_sheet::{PolicyKind, Sheet};
 
@@ -56,13 +56,13 @@ fn audited(alloc: Global, sheet: &Sheet, bytes: &[u8]) -> Result<Printed, Refusa
 {
     let run = match read_run(alloc, bytes) {
         Ok(run) => run,
-        Err(RunRefusal::Text { line }) => {
+        Err(TextRefusal::Line(line)) => {
             return Err(Refusal::Text {
                 source: Source::Run,
                 line,
             });
         }
-        Err(RunRefusal::Memory) => return Err(Refusal::Memory),
+        Err(TextRefusal::Memory) => return Err(Refusal::Memory),
     };
     match print_on(alloc, sheet, &run) {
         Ok(print) => Ok(print),

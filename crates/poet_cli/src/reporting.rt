@@ -18,10 +18,10 @@ use crate::printing::refused;
 use crate::reading::{read_file, sheet_at};
 use crate::refusal::{Refusal, Source};
 use cert_check::judge_cert;
-use certificate::{Cert, CertRefusal, read_cert};
+use certificate::{Cert, read_cert};
 use conditions::Failed;
 use lists::Items;
-use poet_io::Shelf;
+use poet_io::{Shelf, TextRefusal};
 use policy::{Edf, Fifo, Fp};
 use preemption::PerTask;
 use report::{json_report, text_report};
@@ -66,13 +66,13 @@ fn reported(alloc: Global, sheet: &Sheet, form: Form, bytes: &[u8]) -> Result<Pr
 {
     let cert = match read_cert(alloc, bytes) {
         Ok(cert) => cert,
-        Err(CertRefusal::Text { line }) => {
+        Err(TextRefusal::Line(line)) => {
             return Err(Refusal::Text {
                 source: Source::Certificate,
                 line,
             });
         }
-        Err(CertRefusal::Memory) => return Err(Refusal::Memory),
+        Err(TextRefusal::Memory) => return Err(Refusal::Memory),
     };
     match report_on(alloc, sheet, &cert, form) {
         Ok(one) => Ok(one),

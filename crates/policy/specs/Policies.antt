@@ -1,4 +1,4 @@
-use Rattle.std.specs.Prelude.{◌+◌, true, false, pos, ◌-ℤ◌, nat_lt, nat_le, if◌then◌else◌}
+use Rattle.std.specs.Prelude.{◌+◌, ◌&&◌, true, pos, ◌-ℤ◌, nat_lt, nat_le, if◌then◌else◌}
 use Rattle.task_sheet.specs.Sheets.{task_at}
 use Rattle.task_sheet.specs.declared.tasks.PolicyKind.{PolicyKind}
 use Rattle.task_sheet.specs.declared.tasks.PolicyKind.TheVariants.{Fp, Edf, Fifo}
@@ -20,19 +20,19 @@ abbrev pub edf_meaning : PolicyMeaning
 edf_meaning = record {
   key = λ sheet j. record { high = pos (j.arrival + (task_at sheet j.task).deadline); low = pos 0 };
   class = λ sheet i o. true;
-  cap = λ sheet i o a. At (pos (a + 1 + (task_at sheet i).deadline) -ℤ pos (task_at sheet o).deadline);
-  may_block = λ sheet i o a. nat_lt ((task_at sheet i).deadline + a) (task_at sheet o).deadline;
-  may_delay = λ sheet i o. false;
+  cap = λ sheet i o a. At (pos (a + 1 + (task_at sheet i).deadline + (task_at sheet o).jitter) -ℤ pos (task_at sheet o).deadline);
+  may_block = λ sheet i o a. nat_lt ((task_at sheet i).deadline + a) ((task_at sheet o).deadline + (task_at sheet i).jitter);
+  may_delay = λ sheet i o. nat_lt (task_at sheet i).deadline ((task_at sheet o).deadline + (task_at sheet i).jitter) && nat_lt 0 ((task_at sheet i).jitter + (task_at sheet o).jitter);
 }
 
--- first in, first out: jobs that arrived no later interfere, none blocks
+-- first in, first out: jobs that arrived no later interfere, those that arrived later but were released before may block
 abbrev pub fifo_meaning : PolicyMeaning
 fifo_meaning = record {
   key = λ sheet j. record { high = pos j.arrival; low = pos 0 };
   class = λ sheet i o. true;
-  cap = λ sheet i o a. At (pos (a + 1));
-  may_block = λ sheet i o a. false;
-  may_delay = λ sheet i o. false;
+  cap = λ sheet i o a. At (pos (a + 1 + (task_at sheet o).jitter));
+  may_block = λ sheet i o a. nat_lt a (task_at sheet i).jitter;
+  may_delay = λ sheet i o. nat_lt 0 (task_at sheet i).jitter;
 }
 
 -- what a sheet's policy means

@@ -1,5 +1,6 @@
 use Rattle.std.specs.Prelude.{◌≡◌, ℕ, ◌+◌, ◌<◌, ◌≤◌, ◌≢◌, ◌⊎◌, pos, ◌+ℤ◌, ◌<ℤ◌, ◌≤ℤ◌, true, false, length}
 use Rattle.task_sheet.specs.SheetParts.{SheetParts}
+use Rattle.task_sheet.specs.Sheets.{task_at, IsOf, IsTimely}
 use Rattle.task_sheet.specs.declared.tasks.Job.{Job}
 use Rattle.policy.specs.declared.keys.Cap.{Cap}
 use Rattle.policy.specs.declared.keys.Cap.TheVariants.{Nothing, At, All}
@@ -36,10 +37,6 @@ IsLimited Nothing = Unit {0}
 IsLimited (At c) = c ≤ℤ pos 4000000000
 IsLimited All = Unit {0}
 
--- a job of a task of the sheet
-abbrev pub IsOf : SheetParts → Job → Type 0
-IsOf sheet j = j.task < length sheet.tasks
-
 -- the laws of a policy, for the tasks of a sheet and their jobs
 pub record IsLawfulPolicy (p : PolicyMeaning) (sheet : SheetParts) : Type 0 where
   -- urgency keeps to the classes, which are closed upwards
@@ -48,10 +45,10 @@ pub record IsLawfulPolicy (p : PolicyMeaning) (sheet : SheetParts) : Type 0 wher
   pub class_closed : (i : ℕ) (k j : Job) → i < length sheet.tasks → IsOf sheet k → IsOf sheet j → key_le (p.key sheet k) (p.key sheet j) ≡ true → p.class sheet i j.task ≡ true → p.class sheet i k.task ≡ true
   -- jobs of one task are urgent in the order of their arrivals
   pub in_order : (k j : Job) → IsOf sheet k → IsOf sheet j → k.task ≡ j.task → k.arrival ≤ j.arrival → key_le (p.key sheet k) (p.key sheet j) ≡ true
-  -- a job of another task that is as urgent arrives within the cap
-  pub capped : (start a : ℕ) (k j : Job) → IsOf sheet k → IsOf sheet j → k.task ≢ j.task → j.arrival ≡ start + a → start ≤ k.arrival → key_le (p.key sheet k) (p.key sheet j) ≡ true → Admits (p.cap sheet j.task k.task a) start k.arrival
-  -- a less urgent job of another task that arrived before the window may block
-  pub blocks : (start a : ℕ) (k j : Job) → IsOf sheet k → IsOf sheet j → k.task ≢ j.task → j.arrival ≡ start + a → k.arrival < start → key_le (p.key sheet k) (p.key sheet j) ≡ false → p.may_block sheet j.task k.task a ≡ true
+  -- a job of another task that is as urgent and is released in the window arrives within the cap, its task's jitter added
+  pub capped : (start a : ℕ) (k j : Job) → IsOf sheet k → IsOf sheet j → IsTimely sheet k → IsTimely sheet j → k.task ≢ j.task → j.release ≡ start + a → start ≤ k.release → key_le (p.key sheet k) (p.key sheet j) ≡ true → Admits (p.cap sheet j.task k.task a) start (k.arrival + (task_at sheet k.task).jitter)
+  -- a less urgent job of another task that was released before the window may block
+  pub blocks : (start a : ℕ) (k j : Job) → IsOf sheet k → IsOf sheet j → IsTimely sheet k → IsTimely sheet j → k.task ≢ j.task → j.release ≡ start + a → k.release < start → key_le (p.key sheet k) (p.key sheet j) ≡ false → p.may_block sheet j.task k.task a ≡ true
   -- at later offsets caps grow and fewer tasks block
   pub cap_grows : (i o a b : ℕ) → i < length sheet.tasks → o < length sheet.tasks → i ≢ o → a ≤ b → GrowsTo (p.cap sheet i o a) (p.cap sheet i o b)
   pub block_falls : (i o a b : ℕ) → i < length sheet.tasks → o < length sheet.tasks → i ≢ o → a ≤ b → p.may_block sheet i o b ≡ true → p.may_block sheet i o a ≡ true

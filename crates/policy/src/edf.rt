@@ -29,15 +29,18 @@ impl Policy for Edf {
 
     fn cap(sheet: &Sheet, i: u32, o: u32, a: u64) -> Cap {
         let own = sheet.task(i).deadline;
-        let other = sheet.task(o).deadline;
-        Cap::At((a + 1 + own) as i64 - other as i64)
+        let other = sheet.task(o);
+        Cap::At((a + 1 + own + other.jitter) as i64 - other.deadline as i64)
     }
 
     fn may_block(sheet: &Sheet, i: u32, o: u32, a: u64) -> bool {
-        sheet.task(o).deadline > sheet.task(i).deadline + a
+        let own = sheet.task(i);
+        sheet.task(o).deadline + own.jitter > own.deadline + a
     }
 
-    fn may_delay(_sheet: &Sheet, _i: u32, _o: u32) -> bool {
-        false
+    fn may_delay(sheet: &Sheet, i: u32, o: u32) -> bool {
+        let own = sheet.task(i);
+        let other = sheet.task(o);
+        other.deadline + own.jitter > own.deadline && own.jitter + other.jitter > 0
     }
 }

@@ -27,15 +27,15 @@ impl Policy for Fifo {
         true
     }
 
-    fn cap(_sheet: &Sheet, _i: u32, _o: u32, a: u64) -> Cap {
-        Cap::At(a as i64 + 1)
+    fn cap(sheet: &Sheet, _i: u32, o: u32, a: u64) -> Cap {
+        Cap::At((a + 1 + sheet.task(o).jitter) as i64)
     }
 
-    fn may_block(_sheet: &Sheet, _i: u32, _o: u32, _a: u64) -> bool {
-        false
+    fn may_block(sheet: &Sheet, i: u32, _o: u32, a: u64) -> bool {
+        a < sheet.task(i).jitter
     }
 
-    fn may_delay(_sheet: &Sheet, _i: u32, _o: u32) -> bool {
-        false
+    fn may_delay(sheet: &Sheet, i: u32, _o: u32) -> bool {
+        0 < sheet.task(i).jitter
     }
 }

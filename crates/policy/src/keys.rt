@@ -18,12 +18,13 @@ impl Key {
     }
 }
 
-/// Which jobs of another task can delay a job, by their arrival after the window's begin.
+/// Which jobs of another task can delay a job, by their arrival after the window's begin, with the
+/// jitter of their task added.
 #[derive(Clone, Copy, Debug, PartialEq, Eq)]
 pub enum Cap {
     /// None of them.
     Nothing,
-    /// Those that arrive earlier than so many ticks after the window's begin.
+    /// Those for which this is earlier than so many ticks after the window's begin.
     At(i64),
     /// All of them.
     All,

@@ -28,7 +28,7 @@ pub trait Policy {
         requires o { o < length sheet.now.tasks }
         ensures { result ≡ meaning.class sheet.now i o };
 
-    /// Which jobs of task `o` can delay a job of task `i` that arrives `a` ticks into its window.
+    /// Which jobs of task `o` can delay a job of task `i` that is released `a` ticks into its window.
     fn cap(sheet: &Sheet, i: u32, o: u32, a: u64) -> Cap
         requires i { i < length sheet.now.tasks }
         requires o { o < length sheet.now.tasks }

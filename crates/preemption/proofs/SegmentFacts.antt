@@ -2,7 +2,8 @@ use Rattle.std.proofs.Common.{◌≡◌, ◌≢◌, ℕ, ◌≤◌, ◌&&◌, Bo
 use Rattle.task_sheet.specs.declared.tasks.Cut.{Cut}
 use Rattle.task_sheet.specs.declared.tasks.Cut.TheVariants.{Full, Never, Fixed, Floating}
 use Rattle.task_sheet.specs.Sheets.{CutFits}
-use Rattle.preemption.specs.Cuts.{each_within, last_of}
+use Rattle.preemption.specs.Cuts.{each_within}
+use Rattle.task_sheet.specs.Rules.{last_number}
 use Rattle.preemption.specs.Kinds.{segments_of}
 use Rattle.preemption.specs.Segments.{last_within}
 
@@ -17,7 +18,7 @@ each_within_lengths (x ∷ xs) [] h = refl
 each_within_lengths (x ∷ xs) (y ∷ ys) h = and_false (leb x y) (each_within xs ys) (each_within_lengths xs ys (λ e. h (omega (arith, e))))
 
 -- the last segment of a task is at most its cost
-pub last_fits : (cut : Cut) (cost : ℕ) → CutFits cost cut → last_of 0 (segments_of cut) ≤ cost
+pub last_fits : (cut : Cut) (cost : ℕ) → CutFits cost cut → last_number 0 (segments_of cut) ≤ cost
 last_fits Full cost f = omega arith
 last_fits Never cost f = omega arith
 last_fits (Fixed segments) cost f = omega (arith, last_within 0 segments, f.1)

@@ -4,6 +4,7 @@ use Rattle.task_sheet.specs.declared.tasks.Cut.{Cut}
 use Rattle.task_sheet.specs.declared.tasks.Cut.TheVariants.{Full, Never, Fixed, Floating}
 use Rattle.task_sheet.specs.declared.tasks.Task.{Task}
 use Rattle.task_sheet.specs.declared.tasks.Job.{Job}
+use Rattle.task_sheet.specs.Rules.{last_number}
 
 -- s is the sum of some first numbers of the list
 abbrev pub is_prefix_sum : List ℕ → ℕ → Bool
@@ -14,10 +15,6 @@ abbrev pub greatest : List ℕ → ℕ
 greatest [] = 0
 greatest (x ∷ xs) = max x (greatest xs)
 
-abbrev pub last_of : ℕ → List ℕ → ℕ
-last_of before [] = before
-last_of before (x ∷ xs) = last_of x xs
-
 -- as many, and each at most the other at its place
 abbrev pub each_within : List ℕ → List ℕ → Bool
 each_within [] [] = true
@@ -25,9 +22,10 @@ each_within [] (y ∷ ys) = false
 each_within (x ∷ xs) [] = false
 each_within (x ∷ xs) (y ∷ ys) = nat_le x y && each_within xs ys
 
-abbrev pub all_within : ℕ → List ℕ → Bool
-all_within bound [] = true
-all_within bound (x ∷ xs) = is_between 1 bound x && all_within bound xs
+-- lengths of segments, each at most the bound
+abbrev pub are_lengths_within : ℕ → List ℕ → Bool
+are_lengths_within bound [] = true
+are_lengths_within bound (x ∷ xs) = is_between 1 bound x && are_lengths_within bound xs
 
 abbrev pub has_none : List ℕ → Bool
 has_none [] = true
@@ -51,7 +49,7 @@ longest_by (Floating bound) cost = bound
 abbrev pub threshold_by : Cut → ℕ → ℕ
 threshold_by Full cost = cost
 threshold_by Never cost = 1
-threshold_by (Fixed segments) cost = cost - last_of 0 segments + 1
+threshold_by (Fixed segments) cost = cost - last_number 0 segments + 1
 threshold_by (Floating bound) cost = cost
 
 -- whether a job's segments fit a task with this cut
@@ -59,7 +57,7 @@ abbrev pub segments_fit : Cut → Job → Bool
 segments_fit Full j = has_none j.segs
 segments_fit Never j = has_none j.segs
 segments_fit (Fixed segments) j = each_within j.segs segments && (sum j.segs == j.cost)
-segments_fit (Floating bound) j = all_within bound j.segs && (sum j.segs == j.cost)
+segments_fit (Floating bound) j = are_lengths_within bound j.segs && (sum j.segs == j.cost)
 
 abbrev pub is_cuttable : Task → Job → ℕ → Bool
 is_cuttable task j s = cuttable_by task.cut j s

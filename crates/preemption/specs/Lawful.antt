@@ -8,9 +8,9 @@ use Rattle.task_sheet.specs.declared.tasks.Cut.{Cut}
 use Rattle.task_sheet.specs.declared.tasks.Cut.TheVariants.{Full, Never, Fixed, Floating}
 use Rattle.task_sheet.specs.declared.tasks.Task.{Task}
 use Rattle.task_sheet.specs.declared.tasks.Job.{Job}
-use Rattle.task_sheet.specs.Rules.{is_positive}
+use Rattle.task_sheet.specs.Rules.{is_in_range, last_number}
 use Rattle.task_sheet.specs.Sheets.{CutFits, IsTask}
-use Rattle.preemption.specs.Cuts.{is_prefix_sum, greatest, last_of, each_within, all_within, cuttable_by, longest_by, threshold_by, segments_fit}
+use Rattle.preemption.specs.Cuts.{is_prefix_sum, greatest, each_within, are_lengths_within, cuttable_by, longest_by, threshold_by, segments_fit}
 use Rattle.preemption.specs.CutLaws.{IsLawfulCut, IsTabledCut}
 use Rattle.preemption.specs.Kinds.{is_full, is_never, is_fixed, is_floating, segments_of, bound_of, by_cut, full_meaning, never_meaning, fixed_meaning, floating_meaning, per_task_meaning}
 use Rattle.preemption.specs.Segments.{HasNextSum, or_left, or_right, prefix_zero, next_sum, last_within, prefix_leaves_last, greatest_within, greatest_all, greatest_sum, greatest_some, last_some}
@@ -52,13 +52,13 @@ fixed_job segments j f =
     let parts = and_parts (each_within j.segs segments) (sum j.segs == j.cost) f in
     (parts.0, eqb-true (sum j.segs) j.cost parts.1)
 
-floating_job : (bound : ℕ) (j : Job) → segments_fit (Floating bound) j ≡ true → (all_within bound j.segs ≡ true) × (sum j.segs ≡ j.cost)
+floating_job : (bound : ℕ) (j : Job) → segments_fit (Floating bound) j ≡ true → (are_lengths_within bound j.segs ≡ true) × (sum j.segs ≡ j.cost)
 floating_job bound j f =
-    let parts = and_parts (all_within bound j.segs) (sum j.segs == j.cost) f in
+    let parts = and_parts (are_lengths_within bound j.segs) (sum j.segs == j.cost) f in
     (parts.0, eqb-true (sum j.segs) j.cost parts.1)
 
 -- the last segment is not cut
-last_uncut : (segments : List ℕ) (j : Job) (cost s : ℕ) → sum segments ≡ cost → 1 ≤ last_of 0 segments → each_within j.segs segments ≡ true → sum j.segs ≡ j.cost → cost - last_of 0 segments + 1 ≤ s → s < j.cost →
+last_uncut : (segments : List ℕ) (j : Job) (cost s : ℕ) → sum segments ≡ cost → 1 ≤ last_number 0 segments → each_within j.segs segments ≡ true → sum j.segs ≡ j.cost → cost - last_number 0 segments + 1 ≤ s → s < j.cost →
     (is_prefix_sum j.segs s || leb j.cost s) ≡ false
 last_uncut segments j cost s total last each whole h l = elim (cases_Bool (is_prefix_sum j.segs s || leb j.cost s)) [
   | inr uncut ↦ uncut
@@ -97,7 +97,7 @@ never_by cost low = record {
 
 fixed_by : (segments : List ℕ) (cost : ℕ) → 1 ≤ cost → CutFits cost (Fixed segments) → IsLawfulBy (Fixed segments) cost
 fixed_by segments cost low f =
-    let counts = and_parts (is_between 1 1000 (length segments)) (list_all is_positive segments) f.0 in
+    let counts = and_parts (is_between 1 1000 (length segments)) (list_all is_in_range segments) f.0 in
     let some = leb-true 1 (length segments) (and_parts (leb 1 (length segments)) (leb (length segments) 1000) counts.0).0 in
     let last = last_some segments counts.1 some in
     record {

@@ -3,8 +3,8 @@ use Rattle.std.proofs.Common.{◌≡◌, ℕ, ◌+◌, ◌-◌, ◌<◌, ◌≤�
 use Rattle.std.specs.List.{list_all}
 use Rattle.std.proofs.lemmas.Bool.{cases_lt, leb-true, eqb-true, and_from, and_parts, or_cases, le-leb}
 use Rattle.std.proofs.lemmas.List.Sums.{sum_by-cons}
-use Rattle.task_sheet.specs.Rules.{is_positive}
-use Rattle.preemption.specs.Cuts.{is_prefix_sum, greatest, last_of, each_within, all_within}
+use Rattle.task_sheet.specs.Rules.{is_in_range, last_number}
+use Rattle.preemption.specs.Cuts.{is_prefix_sum, greatest, each_within, are_lengths_within}
 
 pub sum_more : (x : ℕ) (xs : List ℕ) → sum (x ∷ xs) ≡ x + sum xs
 sum_more x xs = sum_by-cons (λ (n : ℕ). n) x xs
@@ -64,12 +64,12 @@ next_sum (x ∷ xs) s most h l g = elim (or_cases (s == 0) (leb x s && is_prefix
       next_on x xs (s - x) s most (omega (arith, b)) (next_sum xs (s - x) most p.1 (omega (arith, l, b, sum_more x xs)) (omega (arith, g)))
 ]
 
-pub last_within : (before : ℕ) (ys : List ℕ) → last_of before ys ≤ before + sum ys
+pub last_within : (before : ℕ) (ys : List ℕ) → last_number before ys ≤ before + sum ys
 last_within before [] = omega arith
 last_within before (y ∷ ys) = omega (arith, last_within y ys, sum_more y ys)
 
 -- a cut is the end, or leaves at least the last segment
-pub prefix_leaves_last : (before : ℕ) (xs ys : List ℕ) (s : ℕ) → each_within xs ys ≡ true → is_prefix_sum xs s ≡ true → (s ≡ sum xs) ⊎ (s + last_of before ys ≤ sum ys)
+pub prefix_leaves_last : (before : ℕ) (xs ys : List ℕ) (s : ℕ) → each_within xs ys ≡ true → is_prefix_sum xs s ≡ true → (s ≡ sum xs) ⊎ (s + last_number before ys ≤ sum ys)
 prefix_leaves_last before [] [] s w h = inl (eqb-true s 0 h)
 prefix_leaves_last before [] (y ∷ ys) s w h = absurd (cc)
 prefix_leaves_last before (x ∷ xs) [] s w h = absurd (cc)
@@ -94,10 +94,10 @@ greatest_within (x ∷ xs) (y ∷ ys) w =
     let q = and_parts (leb x y) (each_within xs ys) w in
     omega (arith, leb-true x y q.0, greatest_within xs ys q.1)
 
-pub greatest_all : (bound : ℕ) (xs : List ℕ) → all_within bound xs ≡ true → greatest xs ≤ bound
+pub greatest_all : (bound : ℕ) (xs : List ℕ) → are_lengths_within bound xs ≡ true → greatest xs ≤ bound
 greatest_all bound [] w = omega arith
 greatest_all bound (x ∷ xs) w =
-    let q = and_parts (leb 1 x && leb x bound) (all_within bound xs) w in
+    let q = and_parts (leb 1 x && leb x bound) (are_lengths_within bound xs) w in
     let p = and_parts (leb 1 x) (leb x bound) q.0 in
     omega (arith, leb-true x bound p.1, greatest_all bound xs q.1)
 
@@ -112,16 +112,16 @@ greatest_some (x ∷ xs) h = elim (cases_lt 0 x) [
   | inr z ↦ omega (arith, greatest_some xs (omega (arith, sum_more x xs)))
 ]
 
-last_positive : (x : ℕ) (xs : List ℕ) → 1 ≤ x → list_all is_positive xs ≡ true → 1 ≤ last_of x xs
+last_positive : (x : ℕ) (xs : List ℕ) → 1 ≤ x → list_all is_in_range xs ≡ true → 1 ≤ last_number x xs
 last_positive x [] h w = h
 last_positive x (y ∷ ys) h w =
-    let q = and_parts (is_positive y) (list_all is_positive ys) w in
+    let q = and_parts (is_in_range y) (list_all is_in_range ys) w in
     let p = and_parts (leb 1 y) (leb y 1000000000) q.0 in
     last_positive y ys (leb-true 1 y p.0) q.1
 
-pub last_some : (xs : List ℕ) → list_all is_positive xs ≡ true → 1 ≤ length xs → 1 ≤ last_of 0 xs
+pub last_some : (xs : List ℕ) → list_all is_in_range xs ≡ true → 1 ≤ length xs → 1 ≤ last_number 0 xs
 last_some [] w h = absurd (omega arith)
 last_some (x ∷ xs) w h =
-    let q = and_parts (is_positive x) (list_all is_positive xs) w in
+    let q = and_parts (is_in_range x) (list_all is_in_range xs) w in
     let p = and_parts (leb 1 x) (leb x 1000000000) q.0 in
     last_positive x xs (leb-true 1 x p.0) q.1

@@ -3,7 +3,7 @@ ghost use Rattle.preemption.specs.Kinds.{floating_meaning};
 ghost use Rattle.preemption.specs.Lawful.{floating_lawful, floating_tabled};
 
 use crate::preemption::Preemption;
-use crate::segments::{all_within, bound_of, costs_within, is_prefix_sum, is_sum};
+use crate::segments::{are_lengths_within, bound_of, costs_within, is_prefix_sum, is_sum};
 use crate::tabled::Tabled;
 use task_sheet::{Job, Task};
 
@@ -32,7 +32,7 @@ impl Preemption for FloatingCut {
     fn fits(task: &Task, job: &Job) -> bool {
         let segments = job.segs.as_slice();
         costs_within(task, job)
-            && all_within(bound_of(task), segments)
+            && are_lengths_within(bound_of(task), segments)
             && is_sum(segments, job.cost)
     }
 }

@@ -1,7 +1,8 @@
 //! Segments of tasks and jobs.
 ghost use Rattle.std.specs.Prelude.{◌≡◌, ◌==◌, sum};
 ghost use Rattle.lists.specs.Ranges.{is_between};
-ghost use Rattle.preemption.specs.Cuts.{is_prefix_sum as is_prefix_sum_of, greatest as greatest_of, last_of, each_within as each_within_of, all_within as all_within_of, has_none as has_none_of};
+ghost use Rattle.preemption.specs.Cuts.{is_prefix_sum as is_prefix_sum_of, greatest as greatest_of, each_within as each_within_of, are_lengths_within as are_lengths_within_of, has_none as has_none_of};
+ghost use Rattle.task_sheet.specs.Rules.{last_number};
 ghost use Rattle.preemption.specs.Kinds.{segments_of as segments_by, bound_of as bound_by};
 
 use task_sheet::{Cut, Job, Task};
@@ -84,7 +85,7 @@ pub fn greatest(segments: &[u64]) -> u64
 
 /// The last segment, or 0.
 pub fn last(segments: &[u64]) -> u64
-    ensures { result ≡ last_of 0 segments.now }
+    ensures { result ≡ last_number 0 segments.now }
 {
     let mut latest = 0;
     for segment in segments {
@@ -109,8 +110,8 @@ pub fn each_within(segments: &[u64], bounds: &[u64]) -> bool
 }
 
 /// Whether each segment is positive and at most the bound.
-pub fn all_within(bound: u64, segments: &[u64]) -> bool
-    ensures { result ≡ all_within_of bound segments.now }
+pub fn are_lengths_within(bound: u64, segments: &[u64]) -> bool
+    ensures { result ≡ are_lengths_within_of bound segments.now }
 {
     for segment in segments {
         if !(1 <= *segment && *segment <= bound) {

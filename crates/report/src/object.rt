@@ -4,23 +4,13 @@ ghost use Rattle.serde_json.specs.View.{view};
 ghost use Rattle.serde_json.specs.Written.{compact_text};
 ghost use Rattle.certificate.specs.Text.{IsWithinGrammar};
 ghost use Rattle.report.specs.Rows.{rows_of};
-ghost use Rattle.report.specs.JsonReport.{policy_word as policy_word_of, row_data, report_data, json_report_of};
+ghost use Rattle.report.specs.JsonReport.{row_data, report_data, json_report_of};
 
-use crate::rows::{is_met, missed};
+use crate::rows::{count_missed, is_met};
 use certificate::{Cert, Entry};
 use serde_json::{Value, json};
 use std::alloc::{AllocError, Global};
-use task_sheet::{PolicyKind, Sheet, Task};
-
-fn policy_word(policy: PolicyKind) -> &'static str
-    ensures { result.now ≡ policy_word_of policy }
-{
-    match policy {
-        PolicyKind::Fp => "fp",
-        PolicyKind::Edf => "edf",
-        PolicyKind::Fifo => "fifo",
-    }
-}
+use task_sheet::{Sheet, Task};
 
 fn row_value(alloc: Global, task: &Task, entry: &Entry) -> Result<Value, AllocError>
     ensures { IfOk result (λ value. view value ≡ row_data (task.now, entry.now)) }
@@ -40,7 +30,8 @@ fn row_value(alloc: Global, task: &Task, entry: &Entry) -> Result<Value, AllocEr
 
 fn row_values(alloc: Global, sheet: &Sheet, cert: &Cert) -> Result<Vec<Value>, AllocError>
     requires { length cert.now.entries ≡ length sheet.now.tasks }
-    ensures { IfOk result (λ values. map view values.items ≡ map row_data (rows_of sheet.now cert.now)) }
+    ensures { IfOk result (λ values. map view values.items ≡
+        map row_data (rows_of sheet.now cert.now)) }
 {
     let mut values = Vec::new(alloc);
     for i in 0..sheet.len() {
@@ -55,8 +46,8 @@ fn report_value(alloc: Global, sheet: &Sheet, cert: &Cert) -> Result<Value, Allo
     ensures { IfOk result (λ value. view value ≡ report_data sheet.now cert.now) }
 {
     let tasks = Value::Array(row_values(alloc, sheet, cert)?);
-    let policy = policy_word(sheet.policy());
-    let missed = missed(sheet, cert);
+    let policy = sheet.policy().word();
+    let missed = count_missed(sheet, cert);
     json!(in alloc; {"policy": policy, "missed": missed, "tasks": tasks})
 }
 
@@ -67,7 +58,8 @@ pub fn json_report(alloc: Global, sheet: &Sheet, cert: &Cert) -> Result<Vec<u8>,
     requires tasks { length cert.now.entries ≡ length sheet.now.tasks }
     requires within { IsWithinGrammar cert.now }
     ensures bytes { IfOk result (λ text. text.items ≡ json_report_of sheet.now cert.now) }
-    ensures value { IfOk result (λ text. text.items ≡ compact_text (report_data sheet.now cert.now) ++ codes "\n") }
+    ensures value { IfOk result (λ text. text.items ≡
+        compact_text (report_data sheet.now cert.now) ++ codes "\n") }
 {
     let mut text = report_value(alloc, sheet, cert)?.to_string(alloc)?;
     text.push('\n')?;

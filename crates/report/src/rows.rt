@@ -13,7 +13,7 @@ pub fn is_met(task: &Task, entry: &Entry) -> bool
 }
 
 /// How many bounds are above their deadlines.
-pub fn missed(sheet: &Sheet, cert: &Cert) -> u64
+pub fn count_missed(sheet: &Sheet, cert: &Cert) -> u64
     requires { length cert.now.entries ≡ length sheet.now.tasks }
     ensures { result ≡ missed_of (rows_of sheet.now cert.now) }
 {

@@ -6,7 +6,7 @@ ghost use Rattle.task_sheet.specs.Sheets.{IsTask};
 ghost use Rattle.report.specs.Rows.{rows_of};
 ghost use Rattle.report.specs.TextReport.{result_word as result_word_of, bar_of, claim_columns, marks_of, result_columns, row_line, task_columns, text_report_of};
 
-use crate::rows::{is_met, missed};
+use crate::rows::{count_missed, is_met};
 use certificate::{Cert, Entry};
 use std::alloc::{AllocError, Global};
 use std::fmt::Write;
@@ -48,7 +48,8 @@ fn write_task(text: &mut String, task: &Task) -> Result<(), AllocError>
 /// The bound, the window and the number of points.
 fn write_claim(text: &mut String, entry: &Entry) -> Result<(), AllocError>
     ensures { OnOk result (string_bytes text.new ≡ string_bytes text.old ++
-        (codes " " ++ claim_columns (decimal entry.now.bound) (decimal entry.now.window) (decimal (length entry.now.points)))) }
+        (codes " " ++ claim_columns (decimal entry.now.bound) (decimal entry.now.window)
+        (decimal (length entry.now.points)))) }
 {
     let (bound, window) = (entry.bound, entry.window);
     let points = entry.points.len();
@@ -60,7 +61,8 @@ fn write_result(text: &mut String, task: &Task, entry: &Entry) -> Result<(), All
     requires task { IsTask task.now }
     requires bound { entry.now.bound ≤ 1000000000 }
     ensures { OnOk result (string_bytes text.new ≡ string_bytes text.old ++ (codes " " ++
-        (result_columns (result_word_of (task.now, entry.now)) (bar_of (marks_of entry.now.bound task.now.deadline)) ++ codes "\n"))) }
+        (result_columns (result_word_of (task.now, entry.now))
+        (bar_of (marks_of entry.now.bound task.now.deadline)) ++ codes "\n"))) }
 {
     let result = result_word(task, entry);
     let bar = &MARKS[..marks(entry.bound, task.deadline)];
@@ -70,7 +72,8 @@ fn write_result(text: &mut String, task: &Task, entry: &Entry) -> Result<(), All
 fn write_row(text: &mut String, task: &Task, entry: &Entry) -> Result<(), AllocError>
     requires task { IsTask task.now }
     requires bound { entry.now.bound ≤ 1000000000 }
-    ensures { OnOk result (string_bytes text.new ≡ string_bytes text.old ++ row_line (task.now, entry.now)) }
+    ensures { OnOk result (string_bytes text.new ≡ string_bytes text.old ++
+        row_line (task.now, entry.now)) }
 {
     write_task(text, task)?;
     write_claim(text, entry)?;
@@ -83,7 +86,7 @@ fn write_row(text: &mut String, task: &Task, entry: &Entry) -> Result<(), AllocE
 pub fn text_report(alloc: Global, sheet: &Sheet, cert: &Cert) -> Result<Vec<u8>, AllocError>
     requires tasks { length cert.now.entries ≡ length sheet.now.tasks }
     requires within { IsWithinGrammar cert.now }
-    ensures { IfOk result (λ text. text.items ≡ text_report_of sheet.now cert.now) }
+    ensures bytes { IfOk result (λ text. text.items ≡ text_report_of sheet.now cert.now) }
 {
     let mut text = String::from_str(alloc, HEADER)?;
     for i in 0..sheet.len() {
@@ -94,7 +97,7 @@ pub fn text_report(alloc: Global, sheet: &Sheet, cert: &Cert) -> Result<Vec<u8>,
         )?;
     }
     let tasks = sheet.len();
-    let missed = missed(sheet, cert);
+    let missed = count_missed(sheet, cert);
     writeln!(text, "tasks {tasks} missed {missed}")?;
     Ok(text.into_bytes())
 }

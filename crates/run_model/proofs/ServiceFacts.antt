@@ -93,10 +93,10 @@ module _ (run : Run) (valid : RunsPending run) where
   service_le_cost k zero h = omega (arith, service_none run k)
   service_le_cost k (suc t) h = service_step k t (omega arith) (service_le_cost k t (omega arith))
 
-  -- what has run has arrived
-  pub served_arrived : (k t : ℕ) → t ≤ length run.ticks → 0 < service_of run k t → (job_at run k).arrival < t
-  served_arrived k zero h p = absurd (omega (arith, service_none run k))
-  served_arrived k (suc t) h p = elim (step_cases run k t (omega arith)) [
-    | inr r ↦ omega (arith, (valid.pending t k (omega arith) r.is).arrived)
-    | inl r ↦ omega (arith, served_arrived k t (omega arith) (omega (arith, r.same)))
+  -- what has run was released
+  pub served_released : (k t : ℕ) → t ≤ length run.ticks → 0 < service_of run k t → (job_at run k).release < t
+  served_released k zero h p = absurd (omega (arith, service_none run k))
+  served_released k (suc t) h p = elim (step_cases run k t (omega arith)) [
+    | inr r ↦ omega (arith, (valid.pending t k (omega arith) r.is).released)
+    | inl r ↦ omega (arith, served_released k t (omega arith) (omega (arith, r.same)))
   ]

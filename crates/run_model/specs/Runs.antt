@@ -6,7 +6,7 @@ use Rattle.run_model.specs.declared.run.Tick.TheVariants.{Off, Idle, Runs}
 
 -- what stands past the last job
 unfoldable pub no_job : Job
-no_job = record { task = 0; arrival = 0; cost = 0; segs = [] }
+no_job = record { task = 0; arrival = 0; release = 0; cost = 0; segs = [] }
 
 abbrev pub job_at : Run → ℕ → Job
 job_at run k = slice_index_or run.jobs k no_job
@@ -38,10 +38,10 @@ ticks_in test run t d = count_by test (take d (drop t run.ticks))
 abbrev pub IsDone : Run → ℕ → ℕ → Type 0
 IsDone run k t = (job_at run k).cost ≤ service_of run k t
 
--- job k is there, has arrived and is not done
+-- job k is there, has been released and is not done
 pub record IsPending (run : Run) (k t : ℕ) : Type 0 where
   pub listed : k < length run.jobs
-  pub arrived : (job_at run k).arrival ≤ t
+  pub released : (job_at run k).release ≤ t
   pub not_done : service_of run k t < (job_at run k).cost
 
 -- both, as tests
@@ -49,4 +49,4 @@ abbrev pub is_done : Run → ℕ → ℕ → Bool
 is_done run k t = nat_le (job_at run k).cost (service_of run k t)
 
 abbrev pub is_pending : Run → ℕ → ℕ → Bool
-is_pending run k t = nat_lt k (length run.jobs) && (nat_le (job_at run k).arrival t && not (is_done run k t))
+is_pending run k t = nat_lt k (length run.jobs) && (nat_le (job_at run k).release t && not (is_done run k t))

@@ -36,11 +36,11 @@ pub fn is_done(run: &Run, k: u32, t: u64) -> bool
     service(run, k, t) >= run.jobs.as_slice()[k as usize].cost
 }
 
-/// Whether job `k` has arrived by tick `t` and is not done.
+/// Whether job `k` has been released by tick `t` and is not done.
 pub fn is_pending(run: &Run, k: u32, t: u64) -> bool
     requires job { k < length run.now.jobs }
     requires tick { t ≤ length run.now.ticks }
     ensures { IsTrue result ↔ IsPending run.now k t }
 {
-    run.jobs.as_slice()[k as usize].arrival <= t && !is_done(run, k, t)
+    run.jobs.as_slice()[k as usize].release <= t && !is_done(run, k, t)
 }

@@ -119,7 +119,7 @@ some_job room w = elim (some_below (WithArrival room w) (some_arrival room w) 10
       let s = c.2 in
       inl (record {
         job = make_job t.0 a.0 c.0 s.0;
-        is = record { task = omega (arith, t.1); arrival = omega (arith, a.1); cost = omega (arith, c.1); segs = all_again IsSegment s.0 s.1.all };
+        is = record { task = omega (arith, t.1); arrival = omega (arith, a.1); released = refl; cost = omega (arith, c.1); segs = all_again IsSegment s.0 s.1.all };
         few = s.1.few;
         front = s.2;
       }))

@@ -1,7 +1,7 @@
 -- Fronts of one list, and the newlines in bytes.
 use Rattle.std.proofs.Common.{◌≡◌, ℕ, suc, ◌+◌, ◌⊎◌, ◌==◌, cond, List, [], ◌∷◌, ◌++◌, refl, ◌∙◌, arith, inl, inr}
 use Rattle.std.proofs.lemmas.List.Sums.{sum_by-cons}
-use Rattle.poet_io.specs.RefusedLines.{newlines}
+use Rattle.poet_io.specs.Texts.{newlines}
 use Rattle.run_text.proofs.WordFacts.{Lacks}
 
 -- one of two fronts is a front of the other

@@ -5,7 +5,7 @@ use Rattle.std.proofs.lemmas.List.{at_drop_more, take_more, take_all, drop_all, 
 use Rattle.std.proofs.Math.Seq.{take-nil}
 use Rattle.run_text.specs.declared.stage.Stage.{Stage}
 use Rattle.run_text.specs.declared.stage.Stage.TheVariants.{Head, Counts, Jobs, Ticks, Over}
-use Rattle.run_text.specs.declared.refusal.RunRefusal.TheVariants.{Text}
+use Rattle.poet_io.specs.declared.text_refusal.TextRefusal.TheVariants.{Line}
 use Rattle.run_text.specs.Parts.{Part, after_line}
 use Rattle.run_text.specs.Parsing.{read_on, is_whole}
 
@@ -41,7 +41,7 @@ on_line p q n i line bytes fits less newline is fitting =
 
 -- the end of a line that may not come
 pub on_refusal : (p q : Part) (n i : ℕ) (line bytes : List ℕ) (fits : Bool) → i < length bytes → get_or bytes i 0 ≡ 10 →
-    after_line p line ≡ cond fits (Some q) None → fits ≡ false → read_on p n line (drop i bytes) ≡ Err (Text n)
+    after_line p line ≡ cond fits (Some q) None → fits ≡ false → read_on p n line (drop i bytes) ≡ Err (Line n)
 on_refusal p q n i line bytes fits less newline is fitting =
     let next : after_line p line ≡ None = is ∙ rw fitting refl in
     at_drop_more (λ t. read_on p n line t) bytes i 0 less ∙ rw (eq-eqb (get_or bytes i 0) 10 newline, next) refl
@@ -64,7 +64,7 @@ not_whole Over (x ∷ line) h = refl
 
 -- the end of the bytes, where the last line was not read
 pub on_end : (p : Part) (n i start : ℕ) (bytes : List ℕ) → start ≤ i → length bytes ≤ i → start ≤ length bytes → (p.stage ≡ Over → start ≡ length bytes → ⊥) →
-    read_on p n (between start i bytes) (drop i bytes) ≡ Err (Text n)
+    read_on p n (between start i bytes) (drop i bytes) ≡ Err (Line n)
 on_end p n i start bytes before le inside h =
     let rest : drop i bytes ≡ [] = drop_all i bytes le in
     let all : between start i bytes ≡ drop start bytes = take_all (i - start) (drop start bytes) (omega (arith, length-drop start bytes)) in

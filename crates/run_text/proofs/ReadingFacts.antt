@@ -6,19 +6,18 @@ use Rattle.std.proofs.lemmas.Bool.{cases_Bool, cases_lt, eqb-true}
 use Rattle.std.proofs.lemmas.List.{take-append-drop, length-take-le}
 use Rattle.std.proofs.Math.Seq.{take-append_seam}
 use Rattle.lists.proofs.SearchFacts.{last_up_to}
-use Rattle.poet_io.specs.RefusedLines.{newlines}
-use Rattle.poet_io.proofs.RefusedFacts.{one_refused_line}
+use Rattle.poet_io.specs.declared.text_refusal.TextRefusal.{TextRefusal}
+use Rattle.poet_io.specs.declared.text_refusal.TextRefusal.TheVariants.{Line, Memory}
+use Rattle.poet_io.specs.Texts.{Parses, BeginsText, newlines, IsReading, HaveOneReading}
+use Rattle.poet_io.proofs.TextFacts.{one_reading}
 use Rattle.task_sheet.specs.declared.tasks.Job.{Job}
 use Rattle.run_model.specs.declared.run.Run.{Run}
 use Rattle.run_model.specs.declared.run.Tick.{Tick}
 use Rattle.run_text.specs.declared.stage.Stage.{Stage}
 use Rattle.run_text.specs.declared.stage.Stage.TheVariants.{Head, Counts, Jobs, Ticks, Over}
-use Rattle.run_text.specs.declared.refusal.RunRefusal.{RunRefusal}
-use Rattle.run_text.specs.declared.refusal.RunRefusal.TheVariants.{Text, Memory}
-use Rattle.run_text.specs.Text.{text_of, IsWithinLimits, IsTickOf}
+use Rattle.run_text.specs.Text.{text_of, IsWithinLimits, IsTickOf, run_format}
 use Rattle.run_text.specs.Parts.{Part, nothing_read, after_line, IsSmall}
 use Rattle.run_text.specs.Parsing.{read_on, run_of_text, is_whole}
-use Rattle.run_text.specs.Reading.{Parses, BeginsText, IsReading}
 use Rattle.run_text.proofs.WordFacts.{Lacks, lacks_append, lacks_front, split_at, not_inside, front_of}
 use Rattle.run_text.proofs.RestFacts.{rest_text, Rest, LimitsRest, NoRest, goes, leads, completes}
 use Rattle.run_text.proofs.BeginFacts.{NextLine, next_line_or_not}
@@ -236,12 +235,12 @@ pub record Found (p : Part) (bytes : List ℕ) (run : Run) : Type 0 where
   pub is : run ≡ whole_run p jobs ticks
 
 -- the reading of the bytes from p on
-abbrev pub Answers : Part → ℕ → List ℕ → Result Run RunRefusal → Type 0
+abbrev pub Answers : Part → ℕ → List ℕ → Result Run TextRefusal → Type 0
 Answers p n bytes (Ok run) = Found p bytes run
-Answers p n bytes (Err (Text m)) = Refusal p n bytes m
+Answers p n bytes (Err (Line m)) = Refusal p n bytes m
 Answers p n bytes (Err Memory) = ⊥
 
-answers_before : (p q : Part) (n : ℕ) (acc t : List ℕ) (r : Result Run RunRefusal) → IsSmall p → Lacks 10 acc → after_line p acc ≡ Some q → Answers q (n + 1) t r → Answers p n (acc ++ 10 ∷ t) r
+answers_before : (p q : Part) (n : ℕ) (acc t : List ℕ) (r : Result Run TextRefusal) → IsSmall p → Lacks 10 acc → after_line p acc ≡ Some q → Answers q (n + 1) t r → Answers p n (acc ++ 10 ∷ t) r
 answers_before p q n acc t (Ok run) small one e f =
     let l = leads p.stage p.jobs p.ticks acc q small e in
     let c = l.back f.jobs f.ticks f.rest in
@@ -252,7 +251,7 @@ answers_before p q n acc t (Ok run) small one e f =
       text = ap (λ (l : List ℕ). acc ++ 10 ∷ l) f.text ∙ sym c.text;
       is = f.is ∙ ap (λ (js : List Job). record { jobs = js; ticks = q.ticks ++ f.ticks }) (sym c.same_jobs) ∙ ap (λ (xs : List Tick). record { jobs = p.jobs ++ c.jobs; ticks = xs }) (sym c.same_ticks);
     }
-answers_before p q n acc t (Err (Text m)) small one e r = refuse_before p q n acc t m small one e r
+answers_before p q n acc t (Err (Line m)) small one e r = refuse_before p q n acc t m small one e r
 answers_before p q n acc t (Err Memory) small one e r = r
 
 whole_over : (s : Stage) (line : List ℕ) → is_whole s line ≡ true → (s ≡ Over) × (line ≡ [])
@@ -284,7 +283,7 @@ stuck_line p acc bytes small one none u y more e b =
     absurd (cc)
 
 at_newline : (bytes : List ℕ) (p : Part) (n : ℕ) (acc : List ℕ) (o : Option Part) → IsSmall p → Lacks 10 acc → after_line p acc ≡ o → ((q : Part) → IsSmall q → Answers q (n + 1) bytes (read_on q (n + 1) [] bytes))
-    → Answers p n (acc ++ 10 ∷ bytes) (option_map_or (λ q. read_on q (n + 1) [] bytes) o (Err (Text n)))
+    → Answers p n (acc ++ 10 ∷ bytes) (option_map_or (λ q. read_on q (n + 1) [] bytes) o (Err (Line n)))
 at_newline bytes p n acc None small one e next = refuse_here p n acc (10 ∷ bytes) small one (stuck_line p acc bytes small one e)
 at_newline bytes p n acc (Some q) small one e next = answers_before p q n acc bytes (read_on q (n + 1) [] bytes) small one e (next q (leads p.stage p.jobs p.ticks acc q small e).small)
 
@@ -295,7 +294,7 @@ answers [] p n acc small one = elim (cases_Bool (is_whole p.stage acc)) [
 ]
 answers (x ∷ bytes) p n acc small one = elim (cases_Bool (x == 10)) [
   | inl h ↦ (let newline : 10 ≡ x = sym (eqb-true x 10 h) in
-      rw h (subst (λ (y : ℕ). Answers p n (acc ++ y ∷ bytes) (option_map_or (λ q. read_on q (n + 1) [] bytes) (after_line p acc) (Err (Text n)))) newline (at_newline bytes p n acc (after_line p acc) small one refl (λ q is. answers bytes q (n + 1) [] is tt))))
+      rw h (subst (λ (y : ℕ). Answers p n (acc ++ y ∷ bytes) (option_map_or (λ q. read_on q (n + 1) [] bytes) (after_line p acc) (Err (Line n)))) newline (at_newline bytes p n acc (after_line p acc) small one refl (λ q is. answers bytes q (n + 1) [] is tt))))
   | inr h ↦ rw h (subst (λ (l : List ℕ). Answers p n l (read_on p n (acc ++ x ∷ []) bytes)) (append_assoc acc (x ∷ []) bytes) (answers bytes p n (acc ++ x ∷ []) small (lacks_append 10 acc (x ∷ []) one (h, tt))))
 ]
 
@@ -321,25 +320,25 @@ rest_from_limits run w = record {
 }
 
 -- a run's text is read as this run
-pub run_of_text-parses : (b : List ℕ) (run : Run) → Parses b run → run_of_text b ≡ Ok run
+pub run_of_text-parses : (b : List ℕ) (run : Run) → Parses run_format b run → run_of_text b ≡ Ok run
 unfolding run_of_text
 run_of_text-parses b run h = complete b nothing_read 1 [] run.jobs run.ticks small_start tt (rest_from_limits run h.within) (sym h.text)
 
-begun_from_begins : (b : List ℕ) → BeginsText b → Begun nothing_read b
-begun_from_begins b t = record { jobs = t.run.jobs; ticks = t.run.ticks; more = t.more; rest = rest_from_limits t.run t.parses.within; text = sym t.parses.text }
+begun_from_begins : (b : List ℕ) → BeginsText run_format b → Begun nothing_read b
+begun_from_begins b t = record { jobs = t.value.jobs; ticks = t.value.ticks; more = t.more; rest = rest_from_limits t.value t.parses.within; text = sym t.parses.text }
 
-begins_from_begun : (b : List ℕ) → Begun nothing_read b → BeginsText b
+begins_from_begun : (b : List ℕ) → Begun nothing_read b → BeginsText run_format b
 begins_from_begun b t = record {
-  run = record { jobs = t.jobs; ticks = t.ticks };
+  value = record { jobs = t.jobs; ticks = t.ticks };
   more = t.more;
   parses = record { within = limits_from_rest t.jobs t.ticks t.rest; text = sym t.text };
 }
 
-reading_from_answers : (b : List ℕ) (r : Result Run RunRefusal) → ((run : Run) → Parses b run → r ≡ Ok run) → Answers nothing_read 1 b r → IsReading b r
+reading_from_answers : (b : List ℕ) (r : Result Run TextRefusal) → ((run : Run) → Parses run_format b run → r ≡ Ok run) → Answers nothing_read 1 b r → IsReading run_format b r
 reading_from_answers b (Ok run) all f =
-    let found : Parses b (record { jobs = f.jobs; ticks = f.ticks }) = record { within = limits_from_rest f.jobs f.ticks f.rest; text = f.text } in
-    subst (Parses b) (sym f.is) found
-reading_from_answers b (Err (Text n)) all r = record {
+    let found : Parses run_format b (record { jobs = f.jobs; ticks = f.ticks }) = record { within = limits_from_rest f.jobs f.ticks f.rest; text = f.text } in
+    subst (Parses run_format b) (sym f.is) found
+reading_from_answers b (Err (Line n)) all r = record {
   none = λ run h. absurd (let e = all run h in cc);
   line = record {
     front = r.front;
@@ -352,22 +351,16 @@ reading_from_answers b (Err (Text n)) all r = record {
 }
 reading_from_answers b (Err Memory) all r = absurd r
 
-pub reading_exists : (b : List ℕ) → IsReading b (run_of_text b)
+pub reading_exists : (b : List ℕ) → IsReading run_format b (run_of_text b)
 unfolding run_of_text
 reading_exists b = reading_from_answers b (run_of_text b) (run_of_text-parses b) (answers b nothing_read 1 [] small_start tt)
 
-pub reading_single : (b : List ℕ) (r s : Result Run RunRefusal) → IsReading b r → IsReading b s → r ≡ s
-reading_single b (Ok c) (Ok d) h k = sym (run_of_text-parses b c h) ∙ run_of_text-parses b d k
-reading_single b (Ok c) (Err (Text n)) h k = absurd (k.none c h)
-reading_single b (Ok c) (Err Memory) h k = absurd k
-reading_single b (Err (Text m)) (Ok d) h k = absurd (h.none d k)
-reading_single b (Err (Text m)) (Err (Text n)) h k = ap (λ (n : ℕ). Err (Text n)) (one_refused_line BeginsText b m n h.line k.line)
-reading_single b (Err (Text m)) (Err Memory) h k = absurd k
-reading_single b (Err Memory) s h k = absurd h
+-- no bytes are the text of two runs
+one_parse : (b : List ℕ) (run other : Run) → Parses run_format b run → Parses run_format b other → run ≡ other
+one_parse b run other h k = let same : Ok run ≡ Ok other = sym (run_of_text-parses b run h) ∙ run_of_text-parses b other k in cc
 
--- what `run_of_text` gives is a reading
-pub reading_given : (b : List ℕ) (r : Result Run RunRefusal) → run_of_text b ≡ r → IsReading b r
-reading_given b r e = subst (IsReading b) e (reading_exists b)
+pub one_reading_each : HaveOneReading run_format run_of_text
+one_reading_each = record { exists = reading_exists; single = one_reading run_format one_parse }
 
 -- what is written is read as it was
 pub run_of_text-text_of : (run : Run) → IsWithinLimits run → run_of_text (text_of run) ≡ Ok run

@@ -435,7 +435,7 @@ no_run : (have : ℕ) → LimitsRest have [] []
 no_run have = record { few_jobs = omega arith; few_ticks = omega arith; few_segments = omega arith; all_jobs = All-nil IsJob; all_ticks = All-nil (IsTickOf (have + 0)) }
 
 abbrev pub blank_job : Job
-blank_job = record { task = 0; arrival = 0; cost = 0; segs = [] }
+blank_job = record { task = 0; arrival = 0; release = 0; cost = 0; segs = [] }
 
 -- a tick that may come behind this one
 abbrev pub other_tick : Option Tick → Tick
@@ -460,7 +460,7 @@ pub completes : (stage : Stage) (have : ℕ) → Completes stage have
 completes Head have = record { jobs = []; ticks = []; rest = no_run have }
 completes Counts have = record { jobs = []; ticks = []; rest = no_run have }
 completes (Jobs after room t) have =
-    let blank : IsJob blank_job = record { task = omega arith; arrival = omega arith; cost = omega arith; segs = All-nil IsSegment } in
+    let blank : IsJob blank_job = record { task = omega arith; arrival = omega arith; released = refl; cost = omega arith; segs = All-nil IsSegment } in
     record {
       jobs = replicate (suc after) blank_job;
       ticks = replicate t Idle;

@@ -6,4 +6,3 @@ pub mod Lines
 pub mod Parts
 pub mod Drafts
 pub mod Parsing
-pub mod Reading

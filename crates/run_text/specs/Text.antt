@@ -1,5 +1,6 @@
 -- The one text of each run.
-use Rattle.std.specs.Prelude.{ℕ, ◌+◌, ◌<◌, ◌≤◌, ◌==◌, Bool, true, false, List, [], ◌∷◌, ◌++◌, length, codes, decimal, All, flat_map, sum_by, if◌then◌else◌}
+use Rattle.std.specs.Prelude.{◌≡◌, ℕ, ◌+◌, ◌<◌, ◌≤◌, ◌==◌, Bool, true, false, List, [], ◌∷◌, ◌++◌, length, codes, decimal, All, flat_map, sum_by, if◌then◌else◌}
+use Rattle.poet_io.specs.Texts.{Format}
 use Rattle.task_sheet.specs.declared.tasks.Job.{Job}
 use Rattle.run_model.specs.declared.run.Run.{Run}
 use Rattle.run_model.specs.declared.run.Tick.{Tick}
@@ -67,10 +68,11 @@ limit = 1000000000
 abbrev pub IsSegment : ℕ → Type 0
 IsSegment n = n ≤ limit
 
--- a job's numbers are in range
+-- a job's numbers are in range, and it is released at its arrival, since its line says no release
 pub record IsJob (j : Job) : Type 0 where
   pub task : j.task ≤ limit
   pub arrival : j.arrival ≤ limit
+  pub released : j.release ≡ j.arrival
   pub cost : j.cost ≤ limit
   pub segs : All IsSegment j.segs
 
@@ -91,3 +93,7 @@ pub record IsWithinLimits (run : Run) : Type 0 where
   pub few_segments : segments_of run.jobs ≤ 1000000
   pub jobs : All IsJob run.jobs
   pub ticks : All (IsTickOf (length run.jobs)) run.ticks
+
+-- the format of runs: each that is within the limits has its one text
+abbrev pub run_format : Format Run
+run_format = record { is_within = IsWithinLimits; is_text_of = λ bytes run. bytes ≡ text_of run }

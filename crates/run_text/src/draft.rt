@@ -93,7 +93,8 @@ impl Draft {
     fn take_counts(&mut self, line: &[u8]) -> bool
         ensures next { after_at stage.Counts self.old.jobs.items self.old.ticks.items line.now ≡
             part_if result self.new }
-        ensures small { OnTrue result (length self.old.jobs.items ≡ 0 → IsSmall (part_of self.new)) }
+        ensures small { OnTrue result (length self.old.jobs.items ≡ 0 →
+            IsSmall (part_of self.new)) }
     {
         let Some((jobs, ticks)) = read_counts(line) else {
             return false;
@@ -111,7 +112,8 @@ impl Draft {
         ticks: u64,
     ) -> Result<bool, AllocError>
         ensures { let stage = stage.Jobs after room ticks in IfOk result (λ fits.
-            after_at stage self.old.jobs.items self.old.ticks.items line.now ≡ part_if fits self.new) }
+            after_at stage self.old.jobs.items self.old.ticks.items line.now ≡
+            part_if fits self.new) }
     {
         let Some(job) = read_job(alloc, line, room)? else {
             return Ok(false);

@@ -5,12 +5,10 @@ mod draft;
 mod laws;
 mod lines;
 mod reading;
-mod refusal;
 mod stage;
 mod words;
 mod writing;
 
 pub use laws::{stretches_expand, text_has_one_reading};
 pub use reading::read_run;
-pub use refusal::RunRefusal;
 pub use writing::write_run;

@@ -30,27 +30,15 @@ pub(crate) fn read_counts(line: &[u8]) -> Option<(u64, u64)>
     ensures few_ticks { IfSome result (λ n. n.1 ≤ 100000) }
 {
     let mut words = Words::new(line);
-    let Some(first) = words.next() else {
-        return None;
-    };
-    let Some(jobs) = words.next() else {
-        return None;
-    };
-    let Some(second) = words.next() else {
-        return None;
-    };
-    let Some(ticks) = words.next() else {
-        return None;
-    };
+    let first = words.next()?;
+    let jobs = words.next()?;
+    let second = words.next()?;
+    let ticks = words.next()?;
     if words.next().is_some() || first != b"jobs".as_slice() || second != b"ticks".as_slice() {
         return None;
     }
-    let Some(jobs) = read_number_in(jobs, 0, MOST_JOBS) else {
-        return None;
-    };
-    let Some(ticks) = read_number_in(ticks, 0, MOST_TICKS) else {
-        return None;
-    };
+    let jobs = read_number_in(jobs, 0, MOST_JOBS)?;
+    let ticks = read_number_in(ticks, 0, MOST_TICKS)?;
     Some((jobs, ticks))
 }
 
@@ -75,9 +63,7 @@ fn read_plain_stretch(first: &[u8], count: &[u8], left: u64) -> Option<(Tick, u6
     } else {
         return None;
     };
-    let Some(count) = read_count(count, left) else {
-        return None;
-    };
+    let count = read_count(count, left)?;
     Some((tick, count))
 }
 
@@ -108,12 +94,8 @@ fn read_job_stretch(
     if first != b"run".as_slice() {
         return None;
     }
-    let Some(job) = read_named_job(job, jobs) else {
-        return None;
-    };
-    let Some(count) = read_count(count, left) else {
-        return None;
-    };
+    let job = read_named_job(job, jobs)?;
+    let count = read_count(count, left)?;
     Some((Tick::Runs(job as u32), count))
 }
 
@@ -126,12 +108,8 @@ pub(crate) fn read_stretch(line: &[u8], jobs: u64, left: u64) -> Option<(Tick, u
     ensures stretch { option_map (λ s. stretch s.0 s.1) result ≡ stretch_of jobs left line.now }
 {
     let mut words = Words::new(line);
-    let Some(first) = words.next() else {
-        return None;
-    };
-    let Some(second) = words.next() else {
-        return None;
-    };
+    let first = words.next()?;
+    let second = words.next()?;
     let Some(third) = words.next() else {
         return read_plain_stretch(first, second, left);
     };
@@ -173,19 +151,13 @@ fn read_job_numbers(task: &[u8], arrival: &[u8], cost: &[u8]) -> Option<(u32, u6
     ensures { option_map (λ n. make_job n.0 n.1 n.2 []) result ≡
         job_with (job_number task.now) (job_number arrival.now) (job_number cost.now) (Some []) }
 {
-    let Some(task) = read_job_number(task) else {
-        return None;
-    };
-    let Some(arrival) = read_job_number(arrival) else {
-        return None;
-    };
-    let Some(cost) = read_job_number(cost) else {
-        return None;
-    };
+    let task = read_job_number(task)?;
+    let arrival = read_job_number(arrival)?;
+    let cost = read_job_number(cost)?;
     Some((task as u32, arrival, cost))
 }
 
-/// The job of a line, with at most `room` segments.
+/// The job of a line, with at most `room` segments. It is released at its arrival.
 pub(crate) fn read_job(alloc: Global, line: &[u8], room: u64) -> Result<Option<Job>, AllocError>
     ensures job { IfOk result (λ job. job ≡ job_of room line.now) }
     ensures few { IfOk result (λ job. IfSome job (λ j. length j.segs ≤ room)) }
@@ -215,6 +187,7 @@ pub(crate) fn read_job(alloc: Global, line: &[u8], room: u64) -> Result<Option<J
     Ok(Some(Job {
         task,
         arrival,
+        release: arrival,
         cost,
         segs: Items::new(segs),
     }))

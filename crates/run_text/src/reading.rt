@@ -1,11 +1,12 @@
 //! Reading a run.
 
 ghost use Rattle.std.specs.Prelude.{◌≡◌, ◌≢◌, IfOk, IfErr};
-ghost use Rattle.run_text.specs.Reading.{Parses, IsReading, Gives};
+ghost use Rattle.poet_io.specs.Texts.{Parses, IsReading, Gives};
+ghost use Rattle.run_text.specs.Text.{run_format};
 ghost use Rattle.run_text.specs.Parsing.{run_of_text};
 
 use crate::draft::Draft;
-use crate::refusal::RunRefusal;
+use poet_io::TextRefusal;
 use run_model::Run;
 use std::alloc::Global;
 
@@ -13,9 +14,10 @@ use std::alloc::Global;
 ///
 /// Where they are no run's text, the refusal names the line of the first byte that is wrong or
 /// missing. No byte is kept: a line is read where it stands.
-pub fn read_run(alloc: Global, bytes: &[u8]) -> Result<Run, RunRefusal>
-    ensures found { IfOk result (λ run. Parses bytes.now run) }
-    ensures refused { IfErr result (λ e. e ≢ RunRefusal.Memory → IsReading bytes.now (Err e)) }
+pub fn read_run(alloc: Global, bytes: &[u8]) -> Result<Run, TextRefusal>
+    ensures found { IfOk result (λ run. Parses run_format bytes.now run) }
+    ensures refused { IfErr result (λ e. e ≢ TextRefusal.Memory →
+        IsReading run_format bytes.now (Err e)) }
     ensures gives { Gives result (run_of_text bytes.now) }
 {
     let mut draft = Draft::new(alloc);
@@ -24,7 +26,7 @@ pub fn read_run(alloc: Global, bytes: &[u8]) -> Result<Run, RunRefusal>
     for (at, byte) in bytes.iter().enumerate() {
         if *byte == b'\n' {
             if !draft.take(alloc, &bytes[start..at])? {
-                return Err(RunRefusal::Text { line });
+                return Err(TextRefusal::Line(line));
             }
             start = at + 1;
             line += 1;
@@ -33,5 +35,5 @@ pub fn read_run(alloc: Global, bytes: &[u8]) -> Result<Run, RunRefusal>
     if draft.is_over() && start == bytes.len() {
         return Ok(draft.into_run());
     }
-    Err(RunRefusal::Text { line })
+    Err(TextRefusal::Line(line))
 }

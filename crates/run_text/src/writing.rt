@@ -131,7 +131,8 @@ pub(crate) fn push_run(out: &mut Vec<u8>, run: &Run) -> Result<(), AllocError>
 /// The one text of a run.
 ///
 /// The run must be within the limits: at most 20,000 jobs, 100,000 ticks and 1,000,000 segments
-/// over all jobs, no number of a job above 10^9, and ticks that run only jobs that are there.
+/// over all jobs, no number of a job above 10^9, jobs that are released at their arrivals, and ticks
+/// that run only jobs that are there.
 pub fn write_run(alloc: Global, run: &Run) -> Result<Vec<u8>, AllocError>
     requires { IsWithinLimits run.now }
     ensures { IfOk result (λ text. text.items ≡ text_of run.now) }

@@ -1,4 +1,5 @@
 pub mod PrefixFacts
+pub mod TestFacts
 pub mod SupplyFacts
 pub mod CrowdFacts
-pub mod TestFacts
+pub mod ComplianceFacts

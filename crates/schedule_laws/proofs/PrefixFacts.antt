@@ -7,7 +7,7 @@ use Rattle.preemption.specs.CutLaws.{IsLawfulCut}
 use Rattle.preemption.specs.CutMeaning.{CutMeaning}
 use Rattle.run_model.specs.declared.run.Run.{Run}
 use Rattle.run_model.specs.Runs.{job_at, service_of}
-use Rattle.run_model.proofs.ServiceFacts.{RunsPending, service_le_cost, served_arrived}
+use Rattle.run_model.proofs.ServiceFacts.{RunsPending, service_le_cost, served_released}
 use Rattle.schedule_laws.specs.Compliance.{can_cut, IsValidRun}
 
 -- in a valid run what runs is pending
@@ -19,10 +19,15 @@ pub within_cost : (m : CutMeaning) (sheet : SheetParts) (run : Run) → IsValidR
     service_of run k t ≤ (job_at run k).cost
 within_cost m sheet run valid = service_le_cost run (valid_pending m sheet run valid)
 
--- what has run before a tick has arrived before it
-pub arrived_before : (m : CutMeaning) (sheet : SheetParts) (run : Run) → IsValidRun m sheet run → (k t : ℕ) → t ≤ length run.ticks →
-    0 < service_of run k t → (job_at run k).arrival < t
-arrived_before m sheet run valid = served_arrived run (valid_pending m sheet run valid)
+-- what has run before a tick was released before it
+pub released_before : (m : CutMeaning) (sheet : SheetParts) (run : Run) → IsValidRun m sheet run → (k t : ℕ) → t ≤ length run.ticks →
+    0 < service_of run k t → (job_at run k).release < t
+released_before m sheet run valid = served_released run (valid_pending m sheet run valid)
+
+-- jobs of one task are released in the order of their arrivals
+pub released_in_order : (m : CutMeaning) (sheet : SheetParts) (run : Run) → IsValidRun m sheet run → (n k : ℕ) → n < length run.jobs → k < length run.jobs → (job_at run n).task ≡ (job_at run k).task →
+    (job_at run n).arrival < (job_at run k).arrival → (job_at run n).release ≤ (job_at run k).release
+released_in_order m sheet run valid n k b c same earlier = (valid.releases k c).order n b same earlier
 
 -- what cannot be cut has begun, since a job can be cut before it begins
 pub begun_where_uncut : (m : CutMeaning) (sheet : SheetParts) (run : Run) (k t : ℕ) → IsLawfulCut m (task_at sheet (job_at run k).task) →

@@ -1,11 +1,10 @@
 use Rattle.std.specs.Prelude.{◌≡◌, ℕ, ◌-◌, ◌<◌, ◌≤◌, ◌≢◌, ◌==◌, ◌&&◌, Bool, true, false, length, count_by, nat_le, nat_lt}
 use Rattle.curve.specs.Curves.{alpha_of}
 use Rattle.task_sheet.specs.SheetParts.{SheetParts}
-use Rattle.task_sheet.specs.Sheets.{task_at}
+use Rattle.task_sheet.specs.Sheets.{task_at, IsOf, IsTimely}
 use Rattle.task_sheet.specs.declared.tasks.Job.{Job}
 use Rattle.policy.specs.Keys.{key_le}
 use Rattle.policy.specs.PolicyMeaning.{PolicyMeaning}
-use Rattle.policy.specs.PolicyLaws.{IsOf}
 use Rattle.preemption.specs.CutMeaning.{CutMeaning}
 use Rattle.run_model.specs.declared.run.Run.{Run}
 use Rattle.run_model.specs.declared.run.Tick.TheVariants.{Off, Idle, Runs}
@@ -28,14 +27,20 @@ pub record JobFits (m : CutMeaning) (sheet : SheetParts) (run : Run) (k : ℕ) :
   pub task : IsOf sheet (job_at run k)
   pub fit : m.fits (task_at sheet (job_at run k).task) (job_at run k) ≡ true
 
+-- job k is released within its task's jitter, and no job of its task that arrives earlier is released later
+pub record IsReleased (sheet : SheetParts) (run : Run) (k : ℕ) : Type 0 where
+  pub timely : IsTimely sheet (job_at run k)
+  pub order : (n : ℕ) → n < length run.jobs → (job_at run n).task ≡ (job_at run k).task → (job_at run n).arrival < (job_at run k).arrival → (job_at run n).release ≤ (job_at run k).release
+
 -- tick t runs job k: it is pending, and the jobs of its task that arrived earlier are done
 pub record MayRun (run : Run) (k t : ℕ) : Type 0 where
   pub pending : IsPending run k t
   pub in_order : (n : ℕ) → n < length run.jobs → (job_at run n).task ≡ (job_at run k).task → (job_at run n).arrival < (job_at run k).arrival → IsDone run n t
 
--- every job fits, and every tick that runs a job may run it
+-- every job fits and is released as its task allows, and every tick that runs a job may run it
 pub record IsValidRun (m : CutMeaning) (sheet : SheetParts) (run : Run) : Type 0 where
   pub jobs : (k : ℕ) → k < length run.jobs → JobFits m sheet run k
+  pub releases : (k : ℕ) → k < length run.jobs → IsReleased sheet run k
   pub ticks : (t k : ℕ) → t < length run.ticks → tick_at run t ≡ Runs k → MayRun run k t
 
 -- in every window [t, u) at most as many jobs of a task arrive as its curve says

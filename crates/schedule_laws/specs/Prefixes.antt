@@ -14,11 +14,11 @@ ServedWithinCost m =
     (sheet : SheetParts) (run : Run) → IsValidRun m sheet run → (k t : ℕ) → t ≤ length run.ticks →
     service_of run k t ≤ (job_at run k).cost
 
--- a job that has had service before a tick arrived before that tick
-abbrev pub ServedSinceArrival : CutMeaning → Type 0
-ServedSinceArrival m =
+-- a job that has had service before a tick was released before that tick
+abbrev pub ServedSinceRelease : CutMeaning → Type 0
+ServedSinceRelease m =
     (sheet : SheetParts) (run : Run) → IsValidRun m sheet run → (k t : ℕ) → t ≤ length run.ticks →
-    0 < service_of run k t → (job_at run k).arrival < t
+    0 < service_of run k t → (job_at run k).release < t
 
 -- a job that cannot be cut at a tick has had service before it, where the kind of preemption serves the sheet
 abbrev pub BegunWhereUncut : CutMeaning → Type 0

@@ -1,12 +1,12 @@
 //! The least job that breaks a rule of scheduling at a tick.
-ghost use Rattle.std.specs.Prelude.{◌≡◌, ◌<◌, ◌≤◌, ◌^◌, ◌↔◌, ℕ, length, IsTrue};
+ghost use Rattle.std.specs.Prelude.{◌≡◌, ◌<◌, ◌≤◌, ◌^◌, ℕ, length, true};
 ghost use Rattle.lists.specs.Searches.{IsFirstBelow};
 ghost use Rattle.policy.specs.Keys.{key_le};
-ghost use Rattle.policy.specs.PolicyLaws.{IsOf};
+ghost use Rattle.task_sheet.specs.Sheets.{IsOf};
 ghost use Rattle.run_model.specs.Runs.{job_at, tick_at};
 ghost use Rattle.run_model.specs.declared.run.Tick.TheVariants.{Runs};
 ghost use Rattle.schedule_laws.specs.Compliance.{can_cut};
-ghost use Rattle.schedule_laws.specs.Tests.{AreOf, AreEarly, IsIdleBroken, IsSegmentBroken, IsPriorityBroken};
+ghost use Rattle.schedule_laws.specs.Tests.{AreOf, AreEarly, is_idle_broken as is_idle_broken_by, is_segment_broken as is_segment_broken_by, is_priority_broken as is_priority_broken_by};
 
 use policy::Policy;
 use preemption::Preemption;
@@ -14,10 +14,11 @@ use run_model::{Run, Tick, is_pending, service};
 use task_sheet::Sheet;
 
 /// Whether tick `t` is idle and job `k` is pending there.
+#[tactic(auto, using(crate::proofs::TestFacts::pending_is), unfolding(crate::specs::Tests::is_idle_broken))]
 fn is_idle_broken(run: &Run, t: u64, k: u32) -> bool
     requires job { k < length run.now.jobs }
     requires tick { t < length run.now.ticks }
-    ensures { IsTrue result ↔ IsIdleBroken run.now t k }
+    ensures { result ≡ is_idle_broken_by run.now t k }
 {
     match run.ticks.as_slice()[t as usize] {
         Tick::Idle => is_pending(run, k, t),
@@ -29,7 +30,7 @@ fn is_idle_broken(run: &Run, t: u64, k: u32) -> bool
 pub fn idle_broken(run: &Run, t: u64) -> Option<u32>
     requires few { length run.now.jobs < 2 ^ 32 }
     requires tick { t < length run.now.ticks }
-    ensures { IsFirstBelow (IsIdleBroken run.now t) (length run.now.jobs) result }
+    ensures { IsFirstBelow (λ k. is_idle_broken_by run.now t k ≡ true) (length run.now.jobs) result }
 {
     for k in 0..run.jobs.len() as u32 {
         if is_idle_broken(run, t, k) {
@@ -51,18 +52,18 @@ fn is_cut<M: Preemption>(sheet: &Sheet, run: &Run, t: u64, k: u32) -> bool
 }
 
 /// Whether tick `t` is supplied and does not run job `k`, which cannot be cut there.
+#[tactic(auto, unfolding(crate::specs::Tests::is_segment_broken))]
 fn is_segment_broken<M: Preemption>(sheet: &Sheet, run: &Run, t: u64, k: u32) -> bool
     requires job { k < length run.now.jobs }
     requires tick { t < length run.now.ticks }
     requires task { IsOf sheet.now (job_at run.now k) }
-    ensures { IsTrue result ↔ IsSegmentBroken M.cuts sheet.now run.now t k }
+    ensures { result ≡ is_segment_broken_by M.cuts sheet.now run.now t k }
 {
-    let runs_other = match run.ticks.as_slice()[t as usize] {
+    match run.ticks.as_slice()[t as usize] {
         Tick::Off => false,
-        Tick::Idle => true,
-        Tick::Runs(job) => job != k,
-    };
-    runs_other && !is_cut::<M>(sheet, run, t, k)
+        Tick::Idle => !is_cut::<M>(sheet, run, t, k),
+        Tick::Runs(job) => job != k && !is_cut::<M>(sheet, run, t, k),
+    }
 }
 
 /// The least job that cannot be cut at tick `t`, which is supplied and does not run it.
@@ -70,7 +71,7 @@ pub fn segment_broken<M: Preemption>(sheet: &Sheet, run: &Run, t: u64) -> Option
     requires few { length run.now.jobs < 2 ^ 32 }
     requires tick { t < length run.now.ticks }
     requires tasks { AreOf sheet.now run.now }
-    ensures { IsFirstBelow (IsSegmentBroken M.cuts sheet.now run.now t) (length run.now.jobs) result }
+    ensures { IsFirstBelow (λ k. is_segment_broken_by M.cuts sheet.now run.now t k ≡ true) (length run.now.jobs) result }
 {
     for k in 0..run.jobs.len() as u32 {
         if is_segment_broken::<M>(sheet, run, t, k) {
@@ -93,13 +94,14 @@ fn is_as_urgent<P: Policy>(sheet: &Sheet, run: &Run, k: u32, n: u32) -> bool
 }
 
 /// Whether job `n` is pending at tick `t` and more urgent than the job that runs and can be cut.
+#[tactic(auto, using(crate::proofs::TestFacts::pending_is), unfolding(crate::specs::Tests::is_priority_broken))]
 fn is_priority_broken<P: Policy, M: Preemption>(sheet: &Sheet, run: &Run, t: u64, n: u32) -> bool
     requires job { n < length run.now.jobs }
     requires tick { t < length run.now.ticks }
     requires tasks { AreOf sheet.now run.now }
     requires named { (k : ℕ) → tick_at run.now t ≡ Runs k → k < length run.now.jobs }
     requires arrivals { AreEarly run.now }
-    ensures { IsTrue result ↔ IsPriorityBroken P.meaning M.cuts sheet.now run.now t n }
+    ensures { result ≡ is_priority_broken_by P.meaning M.cuts sheet.now run.now t n }
 {
     let Tick::Runs(k) = run.ticks.as_slice()[t as usize] else {
         return false;
@@ -114,7 +116,7 @@ pub fn priority_broken<P: Policy, M: Preemption>(sheet: &Sheet, run: &Run, t: u6
     requires tasks { AreOf sheet.now run.now }
     requires named { (k : ℕ) → tick_at run.now t ≡ Runs k → k < length run.now.jobs }
     requires arrivals { AreEarly run.now }
-    ensures { IsFirstBelow (IsPriorityBroken P.meaning M.cuts sheet.now run.now t) (length run.now.jobs) result }
+    ensures { IsFirstBelow (λ n. is_priority_broken_by P.meaning M.cuts sheet.now run.now t n ≡ true) (length run.now.jobs) result }
 {
     for n in 0..run.jobs.len() as u32 {
         if is_priority_broken::<P, M>(sheet, run, t, n) {

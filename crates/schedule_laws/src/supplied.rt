@@ -1,13 +1,13 @@
 //! Whether as many ticks are supplied as promised.
-ghost use Rattle.std.specs.Prelude.{◌≡◌, ◌≤◌, ◌↔◌, length, IsTrue};
+ghost use Rattle.std.specs.Prelude.{◌≡◌, ◌≤◌, length};
 ghost use Rattle.run_model.specs.Runs.{is_on as is_on_by};
-ghost use Rattle.schedule_laws.specs.Tests.{IsShort};
+ghost use Rattle.schedule_laws.specs.Tests.{is_short};
 
 use run_model::{Run, Tick};
 use supply::Supply;
 
 /// Whether the tick is supplied.
-fn is_on(tick: Tick) -> bool
+pub fn is_on(tick: Tick) -> bool
     ensures { result ≡ is_on_by tick }
 {
     match tick {
@@ -19,7 +19,7 @@ fn is_on(tick: Tick) -> bool
 /// Whether some window that ends before tick `u` has fewer supplied ticks than promised.
 pub fn short_at<S: Supply>(supply: &S, run: &Run, u: u64) -> bool
     requires tick { u ≤ length run.now.ticks }
-    ensures { IsTrue result ↔ IsShort (S.sbf supply.now) run.now u }
+    ensures { result ≡ is_short (S.sbf supply.now) run.now u }
 {
     let ticks = run.ticks.as_slice();
     let mut supplied = 0;

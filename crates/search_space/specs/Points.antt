@@ -1,4 +1,4 @@
-use Rattle.std.specs.Prelude.{◌≡◌, ℕ, ◌-◌, ◌<◌, ◌==◌, ◌||◌, Bool, true, not, length}
+use Rattle.std.specs.Prelude.{◌≡◌, ℕ, ◌-◌, ◌<◌, ◌≤◌, ◌==◌, ◌||◌, ◌⊎◌, Bool, true, false, not, length}
 use Rattle.lists.specs.Firsts.{all_below}
 use Rattle.task_sheet.specs.SheetParts.{SheetParts}
 use Rattle.policy.specs.PolicyMeaning.{PolicyMeaning}
@@ -16,3 +16,11 @@ is_point p sheet i a = (a == 0) || not (same_at p sheet i (a - 1) a)
 pub record IsPointAfter (p : PolicyMeaning) (sheet : SheetParts) (i a n : ℕ) : Type 0 where
   pub later : a < n
   pub point : is_point p sheet i n ≡ true
+
+-- for the search: low is the same as a, and high is told apart from it, or is the end
+pub record IsAround (p : PolicyMeaning) (sheet : SheetParts) (i a below low high : ℕ) : Type 0 where
+  pub after : a ≤ low
+  pub order : low < high
+  pub within : high ≤ below
+  pub same : same_at p sheet i a low ≡ true
+  pub other : (high ≡ below) ⊎ (same_at p sheet i a high ≡ false)

@@ -4,13 +4,13 @@ use Rattle.std.specs.List.{list_any}
 use Rattle.std.specs.String.{string_eq}
 use Rattle.toml.specs.declared.value.Value.{Value}
 use Rattle.toml.specs.View.{items_view}
-use Rattle.sheet_text.specs.Documents.{count_of}
+use Rattle.sheet_text.specs.Documents.{items_count}
 
-pub count_of-view : (vs : List Value) → count_of (items_view vs) ≡ length vs
-count_of-view [] = refl
-count_of-view (v ∷ vs) = omega (arith, count_of-view vs)
+pub items_count-view : (vs : List Value) → items_count (items_view vs) ≡ length vs
+items_count-view [] = refl
+items_count-view (v ∷ vs) = omega (arith, items_count-view vs)
 
-pub ruleset counts = (count_of-view)
+pub ruleset counts = (items_count-view)
 
 pub list_any-map : {X Y : Type 0} (p : Y → Bool) (h : X → Y) (xs : List X) → list_any p (map h xs) ≡ list_any (λ x. p (h x)) xs
 list_any-map p h [] = refl

@@ -16,7 +16,7 @@ use Rattle.task_sheet.specs.declared.tasks.SupplySpec.TheVariants.{Unit as Whole
 use Rattle.task_sheet.specs.declared.tasks.Cut.{Cut}
 use Rattle.task_sheet.specs.declared.tasks.Cut.TheVariants.{Full, Never, Fixed, Floating}
 use Rattle.task_sheet.specs.declared.tasks.Task.{Task}
-use Rattle.task_sheet.specs.Rules.{is_positive, are_positive}
+use Rattle.task_sheet.specs.Rules.{is_in_range, are_in_range}
 use Rattle.task_sheet.proofs.RuleFacts.{positive_high}
 use Rattle.sheet_text.specs.Printed.{put, number_data, step_data, cut_data, task_data, sheet_data}
 
@@ -34,12 +34,12 @@ pub put_entry : (k : List ℕ) (key : String Global) (v : Value) (es : List MapE
 put_entry k key v [] same = rw same refl
 put_entry k key v (e ∷ es) same = put_in (string_cmp key e.0) k key v e es (rw same refl) same (put_entry k key v es same)
 
-each_positive : (xs : List ℕ) (i d : ℕ) → list_all is_positive xs ≡ true → i < length xs → get_or xs i d ≤ 1000000000
+each_positive : (xs : List ℕ) (i d : ℕ) → list_all is_in_range xs ≡ true → i < length xs → get_or xs i d ≤ 1000000000
 each_positive [] i d h l = absurd (omega arith)
 each_positive (x ∷ xs) zero d h l = positive_high x (and_parts _ _ h).0
 each_positive (x ∷ xs) (suc i) d h l = each_positive xs i d (and_parts _ _ h).1 (omega arith)
 
-pub number_fits : (xs : List ℕ) (i d : ℕ) → are_positive 1000 xs ≡ true → i < length xs → get_or xs i d < 2 ^ 63
+pub number_fits : (xs : List ℕ) (i d : ℕ) → are_in_range 1000 xs ≡ true → i < length xs → get_or xs i d < 2 ^ 63
 number_fits xs i d h l = omega (arith, each_positive xs i d (and_parts _ _ h).1 l)
 
 pub step_at : (xs : List Step) (i : ℕ) (d : Step) → list_all is_step xs ≡ true → i < length xs → is_step (get_or xs i d) ≡ true

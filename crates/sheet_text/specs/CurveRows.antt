@@ -4,7 +4,8 @@ use Rattle.curve.specs.declared.prefix.Step.{Step}
 use Rattle.curve.specs.declared.checking.CurveRefusal.{CurveRefusal}
 use Rattle.curve.specs.declared.checking.CurveRefusal.TheVariants.{Horizon, Limit, First, Order as Falls, Past}
 use Rattle.curve.specs.CurveValue.{Curve}
-use Rattle.curve.specs.Validity.{check_of}
+use Rattle.curve.specs.Curves.{periodic}
+use Rattle.curve.specs.Validity.{prefix_check_of}
 use Rattle.task_sheet.specs.declared.refusal.Place.{Place}
 use Rattle.task_sheet.specs.declared.refusal.Place.TheVariants as places
 use Rattle.task_sheet.specs.declared.refusal.Field.TheVariants as fields
@@ -32,15 +33,15 @@ curve_refusal place Falls = Order place fields.CurveSteps
 curve_refusal place Past = Order place fields.CurveSteps
 
 -- the curve, or the sheet's refusal of it
-abbrev pub tested : Place → Result Curve CurveRefusal → Result Curve SheetRefusal
-tested place (Ok c) = Ok c
-tested place (Err e) = Err (curve_refusal place e)
+abbrev pub curve_or_refusal : Place → Result Curve CurveRefusal → Result Curve SheetRefusal
+curve_or_refusal place (Ok c) = Ok c
+curve_or_refusal place (Err e) = Err (curve_refusal place e)
 
 -- the steps are an array of steps that make a curve of this horizon
 abbrev pub steps_rule : Place → ℕ → Data → Result Curve SheetRefusal
 steps_rule place horizon d =
     present (all_in step_of d) (Kind place fields.CurveSteps)
-    >>= (λ steps. tested place (check_of horizon steps))
+    >>= (λ steps. curve_or_refusal place (prefix_check_of horizon steps))
 
 -- the keys of a curve
 abbrev pub curve_keys : List (List ℕ)
@@ -54,10 +55,6 @@ curve_rule place d = do
   horizon ← positive_rule (codes "horizon") place fields.CurveHorizon d
   steps ← needed_rule (codes "steps") place fields.CurveSteps d
   steps_rule place horizon steps
-
--- one job in each period
-abbrev pub periodic : ℕ → Curve
-periodic period = record { horizon = period; steps = record { time = 1; value = 1 } ∷ [] }
 
 -- a period is the curve of one job in each
 abbrev pub period_rule : Place → Data → Result Curve SheetRefusal

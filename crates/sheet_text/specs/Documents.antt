@@ -71,6 +71,6 @@ all_in read (array ds) = all_of read ds
 all_in read _ = None
 
 -- how many items there are
-abbrev pub count_of : Items → ℕ
-count_of no_items = 0
-count_of (item d ds) = 1 + count_of ds
+abbrev pub items_count : Items → ℕ
+items_count no_items = 0
+items_count (item d ds) = 1 + items_count ds

@@ -9,8 +9,9 @@ use Rattle.task_sheet.specs.declared.refusal.Field.TheVariants as fields
 use Rattle.task_sheet.specs.declared.refusal.SheetRefusal.{SheetRefusal}
 use Rattle.task_sheet.specs.declared.refusal.SheetRefusal.TheVariants.{Text, Kind, Range}
 use Rattle.task_sheet.specs.SheetParts.{SheetParts}
+use Rattle.task_sheet.specs.Words.{policy_word}
 use Rattle.task_sheet.specs.Refusing.{◌>>=◌, holds, present}
-use Rattle.sheet_text.specs.Documents.{document_of, keys_rule, needed_rule, count_of}
+use Rattle.sheet_text.specs.Documents.{document_of, keys_rule, needed_rule, items_count}
 use Rattle.sheet_text.specs.SupplyRows.{supplied_rule}
 use Rattle.sheet_text.specs.TaskRows.{tasks_after}
 
@@ -21,9 +22,9 @@ sheet_keys = codes "policy" ∷ codes "supply" ∷ codes "task" ∷ []
 -- the policy of a word
 abbrev pub policy_named : List ℕ → Option PolicyKind
 policy_named word =
-    if bytes_eq word (codes "fp") then Some Fp
-    else if bytes_eq word (codes "edf") then Some Edf
-    else if bytes_eq word (codes "fifo") then Some Fifo
+    if bytes_eq word (policy_word Fp) then Some Fp
+    else if bytes_eq word (policy_word Edf) then Some Edf
+    else if bytes_eq word (policy_word Fifo) then Some Fifo
     else None
 
 -- a policy is a word of these
@@ -35,7 +36,7 @@ policy_rule _ = Err (Kind places.Top fields.Policy)
 abbrev pub items_rule : Data → Result Items SheetRefusal
 items_rule (array ds) =
     holds (are_tables ds) (Kind places.Top fields.Task)
-    >>= (λ _. holds (is_between 1 256 (count_of ds)) (Range places.Top fields.Task)
+    >>= (λ _. holds (is_between 1 256 (items_count ds)) (Range places.Top fields.Task)
     >>= (λ _. Ok ds))
 items_rule _ = Err (Kind places.Top fields.Task)
 

@@ -2,12 +2,12 @@
 ghost use Rattle.std.specs.Prelude.{◌≡◌, IfOk, option_map, codes};
 ghost use Rattle.toml.specs.Data.{array, get};
 ghost use Rattle.toml.specs.View.{view, items_view};
-ghost use Rattle.curve.specs.Validity.{IsCurve, check_of};
-ghost use Rattle.sheet_text.specs.Readings.{Gives};
+ghost use Rattle.curve.specs.Validity.{IsCurve, prefix_check_of};
+ghost use Rattle.sheet_text.specs.Readings.{ReadsAs};
 ghost use Rattle.sheet_text.specs.Documents.{all_of, all_in};
-ghost use Rattle.sheet_text.specs.CurveRows.{step_from as step_from_of, step_of as step_of_value, curve_refusal as refusal_of, tested as tested_of, steps_rule, curve_rule, period_rule, arrivals_rule};
+ghost use Rattle.sheet_text.specs.CurveRows.{step_from as step_from_of, step_of as step_of_value, curve_refusal as refusal_of, curve_or_refusal, steps_rule, curve_rule, period_rule, arrivals_rule};
 
-use crate::document::{check_keys, check_table, needed};
+use crate::document::{check_keys, check_table, needed_value};
 use crate::numbers::{GREATEST, number, positive, whole};
 use curve::{CurveRefusal, Prefix, Step};
 use std::alloc::{AllocError, Global};
@@ -44,7 +44,8 @@ fn step_of(value: &Value) -> Option<Step>
 }
 
 fn all_steps(alloc: Global, items: &[Value]) -> Result<Option<Vec<Step>>, AllocError>
-    ensures { IfOk result (λ o. option_map (λ v. v.items) o ≡ all_of step_of_value (items_view items.now)) }
+    ensures { IfOk result (λ o. option_map (λ v. v.items) o ≡
+        all_of step_of_value (items_view items.now)) }
 {
     let mut steps = Vec::new(alloc);
     'items: for item in items {
@@ -57,7 +58,8 @@ fn all_steps(alloc: Global, items: &[Value]) -> Result<Option<Vec<Step>>, AllocE
 }
 
 fn steps_in(alloc: Global, value: &Value) -> Result<Option<Vec<Step>>, AllocError>
-    ensures { IfOk result (λ o. option_map (λ v. v.items) o ≡ all_in step_of_value (view value.now)) }
+    ensures { IfOk result (λ o. option_map (λ v. v.items) o ≡
+        all_in step_of_value (view value.now)) }
 {
     match value {
         Value::Array(items) => all_steps(alloc, items.as_slice()),
@@ -85,8 +87,8 @@ fn curve_refusal(place: Place, refusal: CurveRefusal) -> SheetRefusal
     }
 }
 
-fn tested(place: Place, horizon: u64, steps: Vec<Step>) -> Result<Prefix, SheetRefusal>
-    ensures gives { result ≡ tested_of place (check_of horizon steps.items) }
+fn curve_from(place: Place, horizon: u64, steps: Vec<Step>) -> Result<Prefix, SheetRefusal>
+    ensures gives { result ≡ curve_or_refusal place (prefix_check_of horizon steps.items) }
     ensures valid { IfOk result IsCurve }
 {
     match Prefix::check(horizon, steps) {
@@ -101,7 +103,7 @@ fn with_steps(
     horizon: u64,
     steps: &Value,
 ) -> Result<Prefix, SheetRefusal>
-    ensures gives { Gives (λ c. c) result (steps_rule place horizon (view steps.now)) }
+    ensures gives { ReadsAs (λ c. c) result (steps_rule place horizon (view steps.now)) }
     ensures valid { IfOk result IsCurve }
 {
     let Some(steps) = steps_in(alloc, steps)? else {
@@ -110,12 +112,12 @@ fn with_steps(
             field: Field::CurveSteps,
         });
     };
-    tested(place, horizon, steps)
+    curve_from(place, horizon, steps)
 }
 
 #[tactic(auto, unfolding(crate::specs::CurveRows::curve_rule))]
 fn curve_of(alloc: Global, place: Place, value: &Value) -> Result<Prefix, SheetRefusal>
-    ensures gives { Gives (λ c. c) result (curve_rule place (view value.now)) }
+    ensures gives { ReadsAs (λ c. c) result (curve_rule place (view value.now)) }
     ensures valid { IfOk result IsCurve }
 {
     check_table(value, place, Field::Curve)?;
@@ -125,13 +127,13 @@ fn curve_of(alloc: Global, place: Place, value: &Value) -> Result<Prefix, SheetR
         alloc,
         place,
         horizon,
-        needed(value, "steps", place, Field::CurveSteps)?,
+        needed_value(value, "steps", place, Field::CurveSteps)?,
     )
 }
 
 /// One job in each period.
 fn periodic(alloc: Global, place: Place, value: &Value) -> Result<Prefix, SheetRefusal>
-    ensures gives { Gives (λ c. c) result (period_rule place (view value.now)) }
+    ensures gives { ReadsAs (λ c. c) result (period_rule place (view value.now)) }
     ensures valid { IfOk result IsCurve }
 {
     let period = whole(value, place, Field::Period, 1, GREATEST)?;
@@ -140,7 +142,8 @@ fn periodic(alloc: Global, place: Place, value: &Value) -> Result<Prefix, SheetR
 
 /// The curve of task `n`, which has a period or a curve, and not both.
 pub fn arrivals(alloc: Global, n: u32, task: &Value) -> Result<Prefix, SheetRefusal>
-    ensures gives { Gives (λ c. c) result (arrivals_rule n (get (codes "period") (view task.now)) (get (codes "curve") (view task.now))) }
+    ensures gives { ReadsAs (λ c. c) result (arrivals_rule n
+        (get (codes "period") (view task.now)) (get (codes "curve") (view task.now))) }
     ensures valid { IfOk result IsCurve }
 {
     let place = Place::Task(n);

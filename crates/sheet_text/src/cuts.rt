@@ -3,7 +3,7 @@ ghost use Rattle.std.specs.Prelude.{◌≡◌, Ok, IfOk, option_map, codes};
 ghost use Rattle.toml.specs.Data.{get};
 ghost use Rattle.toml.specs.View.{view};
 ghost use Rattle.task_sheet.specs.Rules.{cut_rule};
-ghost use Rattle.sheet_text.specs.Readings.{Gives};
+ghost use Rattle.sheet_text.specs.Readings.{ReadsAs};
 ghost use Rattle.sheet_text.specs.CutRows.{word_rule, parts_rule, segmented_rule, preemption_rule};
 
 use crate::document::check_keys;
@@ -13,7 +13,7 @@ use std::alloc::Global;
 use task_sheet::{Cut, Field, Place, SheetRefusal, check_cut};
 use toml::Value;
 
-fn named(place: Place, word: &str) -> Result<Cut, SheetRefusal>
+fn cut_named(place: Place, word: &str) -> Result<Cut, SheetRefusal>
     ensures { result ≡ word_rule place word.now }
 {
     match word {
@@ -27,7 +27,7 @@ fn named(place: Place, word: &str) -> Result<Cut, SheetRefusal>
 }
 
 fn fixed_cut(alloc: Global, place: Place, fixed: &Value) -> Result<Cut, SheetRefusal>
-    ensures { Gives (λ c. c) result (parts_rule place (Some (view fixed.now)) None) }
+    ensures { ReadsAs (λ c. c) result (parts_rule place (Some (view fixed.now)) None) }
 {
     match numbers(alloc, fixed)? {
         Some(segments) => Ok(Cut::Fixed(Items::new(segments))),
@@ -51,8 +51,9 @@ fn floating_cut(place: Place, floating: &Value) -> Result<Cut, SheetRefusal>
 }
 
 /// Exactly one of the two kinds of segments.
-fn parts(alloc: Global, place: Place, table: &Value) -> Result<Cut, SheetRefusal>
-    ensures { Gives (λ c. c) result (parts_rule place (get (codes "fixed") (view table.now)) (get (codes "floating") (view table.now))) }
+fn cut_of_parts(alloc: Global, place: Place, table: &Value) -> Result<Cut, SheetRefusal>
+    ensures { ReadsAs (λ c. c) result (parts_rule place
+        (get (codes "fixed") (view table.now)) (get (codes "floating") (view table.now))) }
 {
     match (table.get("fixed"), table.get("floating")) {
         (Some(fixed), None) => fixed_cut(alloc, place, fixed),
@@ -65,26 +66,27 @@ fn parts(alloc: Global, place: Place, table: &Value) -> Result<Cut, SheetRefusal
 }
 
 #[tactic(auto, unfolding(crate::specs::CutRows::segmented_rule))]
-fn segmented(alloc: Global, n: u32, cost: u64, table: &Value) -> Result<Cut, SheetRefusal>
-    ensures gives { Gives (λ c. c) result (segmented_rule n cost (view table.now)) }
+fn segmented_cut(alloc: Global, n: u32, cost: u64, table: &Value) -> Result<Cut, SheetRefusal>
+    ensures gives { ReadsAs (λ c. c) result (segmented_rule n cost (view table.now)) }
     ensures valid { IfOk result (λ c. cut_rule n cost c ≡ Ok tt) }
 {
     let place = Place::Task(n);
     check_keys(table, &["fixed", "floating"], place)?;
-    let cut = parts(alloc, place, table)?;
+    let cut = cut_of_parts(alloc, place, table)?;
     check_cut(n, cost, &cut)?;
     Ok(cut)
 }
 
 /// The preemption of task `n`, which fits its cost.
 pub fn preemption(alloc: Global, n: u32, cost: u64, task: &Value) -> Result<Cut, SheetRefusal>
-    ensures gives { Gives (λ c. c) result (preemption_rule n cost (get (codes "preemption") (view task.now))) }
+    ensures gives { ReadsAs (λ c. c) result (preemption_rule n cost
+        (get (codes "preemption") (view task.now))) }
     ensures valid { IfOk result (λ c. cut_rule n cost c ≡ Ok tt) }
 {
     match task.get("preemption") {
         None => Ok(Cut::Full),
-        Some(Value::String(word)) => named(Place::Task(n), word.as_str()),
-        Some(table @ Value::Table(_)) => segmented(alloc, n, cost, table),
+        Some(Value::String(word)) => cut_named(Place::Task(n), word.as_str()),
+        Some(table @ Value::Table(_)) => segmented_cut(alloc, n, cost, table),
         Some(_) => Err(SheetRefusal::Kind {
             place: Place::Task(n),
             field: Field::Preemption,

@@ -5,7 +5,7 @@ ghost use Rattle.toml.specs.View.{view, items_view};
 ghost use Rattle.lists.specs.Ranges.{is_between};
 ghost use Rattle.sheet_text.specs.Documents.{whole_rule, positive_rule, natural as natural_of, number_of, all_of, all_in};
 
-use crate::document::needed;
+use crate::document::needed_value;
 use std::alloc::{AllocError, Global};
 use task_sheet::{Field, Place, SheetRefusal};
 use toml::Value;
@@ -45,7 +45,13 @@ pub fn positive(value: &Value, key: &str, place: Place, field: Field) -> Result<
     ensures within { IfOk result (λ n. is_between 1 1000000000 n ≡ true) }
     ensures gives { result ≡ positive_rule key.now place field (view value.now) }
 {
-    whole(needed(value, key, place, field)?, place, field, 1, GREATEST)
+    whole(
+        needed_value(value, key, place, field)?,
+        place,
+        field,
+        1,
+        GREATEST,
+    )
 }
 
 fn natural(n: i64) -> u64
@@ -68,7 +74,8 @@ pub fn number(value: &Value) -> Option<u64>
 }
 
 fn all_numbers(alloc: Global, items: &[Value]) -> Result<Option<Vec<u64>>, AllocError>
-    ensures { IfOk result (λ o. option_map (λ v. v.items) o ≡ all_of number_of (items_view items.now)) }
+    ensures { IfOk result (λ o. option_map (λ v. v.items) o ≡
+        all_of number_of (items_view items.now)) }
 {
     let mut numbers = Vec::new(alloc);
     'items: for item in items {
@@ -82,7 +89,8 @@ fn all_numbers(alloc: Global, items: &[Value]) -> Result<Option<Vec<u64>>, Alloc
 
 /// The integers of an array of integers.
 pub fn numbers(alloc: Global, value: &Value) -> Result<Option<Vec<u64>>, AllocError>
-    ensures { IfOk result (λ o. option_map (λ v. v.items) o ≡ all_in number_of (view value.now)) }
+    ensures { IfOk result (λ o. option_map (λ v. v.items) o ≡
+        all_in number_of (view value.now)) }
 {
     match value {
         Value::Array(items) => all_numbers(alloc, items.as_slice()),

@@ -1,21 +1,23 @@
 //! Printing a sheet.
-ghost use Rattle.std.specs.Prelude.{◌≡◌, ◌<◌, ◌≤◌, ◌^◌, true, map, IfOk, OnOk, Ok};
+ghost use Rattle.std.specs.Prelude.{◌≡◌, ◌<◌, ◌≤◌, ◌^◌, true, map, IfOk, OnOk, Some, Ok};
 ghost use Rattle.std.specs.List.{list_all};
 ghost use Rattle.toml.specs.Data.{table, member, no_members};
 ghost use Rattle.toml.specs.View.{view, table_view};
 ghost use Rattle.curve.specs.Validity.{is_step};
-ghost use Rattle.task_sheet.specs.Rules.{are_positive};
+ghost use Rattle.task_sheet.specs.Rules.{are_in_range};
 ghost use Rattle.task_sheet.specs.Sheets.{IsPromise, IsTask, IsValidSheet};
-ghost use Rattle.sheet_text.specs.Printed.{put as put_of, array_data, number_data, step_data, curve_data, cut_data, task_data, policy_word as policy_word_of, promise_data, put_promise as put_promise_of, sheet_data};
+ghost use Rattle.sheet_text.specs.Printed.{put as put_of, array_data, number_data, step_data, curve_data, cut_data, task_data, promise_data, put_promise as put_promise_of, sheet_data};
+ghost use Rattle.sheet_text.specs.Documents.{document_of};
 ghost use Rattle.sheet_text.specs.SheetRows.{sheet_of_text};
 
 use curve::{Prefix, Step};
 use std::alloc::{AllocError, Global};
-use task_sheet::{Cut, PolicyKind, Sheet, SupplySpec, Task};
+use task_sheet::{Cut, Sheet, SupplySpec, Task};
 use toml::{Table, Value};
 
 fn put(alloc: Global, table: &mut Table, key: &str, value: Value) -> Result<(), AllocError>
-    ensures { OnOk result (table_view table.new ≡ put_of key.now (view value) (table_view table.old)) }
+    ensures { OnOk result (table_view table.new ≡
+        put_of key.now (view value) (table_view table.old)) }
 {
     let _ = table.insert(String::from_str(alloc, key)?, value)?;
     Ok(())
@@ -29,7 +31,7 @@ fn number_value(n: u64) -> Value
 }
 
 fn numbers_value(alloc: Global, numbers: &[u64]) -> Result<Value, AllocError>
-    requires { are_positive 1000 numbers.now ≡ true }
+    requires { are_in_range 1000 numbers.now ≡ true }
     ensures { IfOk result (λ v. view v ≡ array_data number_data numbers.now) }
 {
     let mut values = Vec::new(alloc);
@@ -126,7 +128,7 @@ fn tasks_value(alloc: Global, sheet: &Sheet) -> Result<Value, AllocError>
 
 fn promise_value(alloc: Global, horizon: u64, times: &[u64]) -> Result<Value, AllocError>
     requires horizon { horizon < 2 ^ 63 }
-    requires times { are_positive 1000 times.now ≡ true }
+    requires times { are_in_range 1000 times.now ≡ true }
     ensures { IfOk result (λ v. view v ≡ promise_data horizon times.now) }
 {
     let mut table = Table::new(alloc);
@@ -138,7 +140,8 @@ fn promise_value(alloc: Global, horizon: u64, times: &[u64]) -> Result<Value, Al
 /// What is promised of the processor, if anything is.
 fn put_promise(alloc: Global, table: &mut Table, supply: &SupplySpec) -> Result<(), AllocError>
     requires { IsPromise supply.now }
-    ensures { OnOk result (table_view table.new ≡ put_promise_of supply.now (table_view table.old)) }
+    ensures { OnOk result (table_view table.new ≡
+        put_promise_of supply.now (table_view table.old)) }
 {
     match supply {
         SupplySpec::Unit => Ok(()),
@@ -151,16 +154,6 @@ fn put_promise(alloc: Global, table: &mut Table, supply: &SupplySpec) -> Result<
     }
 }
 
-fn policy_word(policy: PolicyKind) -> &'static str
-    ensures { result.now ≡ policy_word_of policy }
-{
-    match policy {
-        PolicyKind::Fp => "fp",
-        PolicyKind::Edf => "edf",
-        PolicyKind::Fifo => "fifo",
-    }
-}
-
 fn sheet_table(alloc: Global, sheet: &Sheet) -> Result<Table, AllocError>
     ensures data { IfOk result (λ t. table_view t ≡ sheet_data sheet.now) }
     ensures valid { OnOk result (IsValidSheet sheet.now) }
@@ -170,7 +163,7 @@ fn sheet_table(alloc: Global, sheet: &Sheet) -> Result<Table, AllocError>
         alloc,
         &mut table,
         "policy",
-        Value::string(alloc, policy_word(sheet.policy()))?,
+        Value::string(alloc, sheet.policy().word())?,
     )?;
     put(alloc, &mut table, "task", tasks_value(alloc, sheet)?)?;
     put_promise(alloc, &mut table, sheet.supply())?;
@@ -181,7 +174,9 @@ fn sheet_table(alloc: Global, sheet: &Sheet) -> Result<Table, AllocError>
 ///
 /// Keys stand in the order of their bytes. A period is printed as the curve that it means.
 pub fn print_sheet(alloc: Global, sheet: &Sheet) -> Result<Vec<u8>, AllocError>
-    ensures { IfOk result (λ text. sheet_of_text text.items ≡ Ok sheet.now) }
+    ensures reads { IfOk result (λ text. sheet_of_text text.items ≡ Ok sheet.now) }
+    ensures document { IfOk result (λ text. document_of text.items ≡
+        Some (table (sheet_data sheet.now))) }
 {
     let table = sheet_table(alloc, sheet)?;
     match toml::table_to_string(alloc, &table) {

@@ -4,11 +4,11 @@ ghost use Rattle.toml.specs.Data.{array};
 ghost use Rattle.toml.specs.Text.{are_tables as are_tables_of};
 ghost use Rattle.toml.specs.View.{view, items_view};
 ghost use Rattle.task_sheet.specs.Sheets.{IsValidSheet};
-ghost use Rattle.sheet_text.specs.Readings.{Gives, seen};
+ghost use Rattle.sheet_text.specs.Readings.{ReadsAs, seen};
 ghost use Rattle.sheet_text.specs.SheetRows.{policy_named as policy_named_of, policy_rule, items_rule, sheet_of as sheet_of_value, sheet_of_text};
 
-use crate::document::{check_keys, document, needed};
-use crate::promises::supplied;
+use crate::document::{check_keys, document, needed_value};
+use crate::promises::supply_of;
 use crate::tasks::tasks_of;
 use std::alloc::Global;
 use task_sheet::{Field, Place, PolicyKind, Sheet, SheetRefusal};
@@ -17,11 +17,14 @@ use toml::Value;
 fn policy_named(word: &str) -> Option<PolicyKind>
     ensures { result ≡ policy_named_of word.now }
 {
-    match word {
-        "fp" => Some(PolicyKind::Fp),
-        "edf" => Some(PolicyKind::Edf),
-        "fifo" => Some(PolicyKind::Fifo),
-        _ => None,
+    if word == PolicyKind::Fp.word() {
+        Some(PolicyKind::Fp)
+    } else if word == PolicyKind::Edf.word() {
+        Some(PolicyKind::Edf)
+    } else if word == PolicyKind::Fifo.word() {
+        Some(PolicyKind::Fifo)
+    } else {
+        None
     }
 }
 
@@ -49,7 +52,8 @@ fn are_tables(values: &[Value]) -> bool
 
 #[tactic(auto, using(crate::proofs::Counts::counts))]
 fn counted(items: &[Value]) -> Result<&[Value], SheetRefusal>
-    ensures gives { seen (λ v. items_view v.now) result ≡ items_rule (array (items_view items.now)) }
+    ensures gives { seen (λ v. items_view v.now) result ≡
+        items_rule (array (items_view items.now)) }
     ensures few { IfOk result (λ v. length v.now ≤ 256) }
     ensures some { IfOk result (λ v. 1 ≤ length v.now) }
 {
@@ -81,14 +85,14 @@ fn task_items(value: &Value) -> Result<&[Value], SheetRefusal>
 
 #[tactic(auto, unfolding(crate::specs::SheetRows::sheet_of))]
 fn sheet_of(alloc: Global, document: &Value) -> Result<Sheet, SheetRefusal>
-    ensures gives { Gives (λ s. s) result (sheet_of_value (view document.now)) }
+    ensures gives { ReadsAs (λ s. s) result (sheet_of_value (view document.now)) }
     ensures valid { IfOk result IsValidSheet }
 {
     let place = Place::Top;
     check_keys(document, &["policy", "supply", "task"], place)?;
-    let policy = policy_of(needed(document, "policy", place, Field::Policy)?)?;
-    let supply = supplied(alloc, document)?;
-    let items = task_items(needed(document, "task", place, Field::Task)?)?;
+    let policy = policy_of(needed_value(document, "policy", place, Field::Policy)?)?;
+    let supply = supply_of(alloc, document)?;
+    let items = task_items(needed_value(document, "task", place, Field::Task)?)?;
     let tasks = tasks_of(alloc, policy, items)?;
     Ok(Sheet::new(policy, supply, tasks))
 }
@@ -98,7 +102,7 @@ fn sheet_of(alloc: Global, document: &Value) -> Result<Sheet, SheetRefusal>
 /// The only other refusal is want of memory.
 #[tactic(auto, unfolding(crate::specs::SheetRows::sheet_of_text))]
 pub fn read_sheet(alloc: Global, bytes: &[u8]) -> Result<Sheet, SheetRefusal>
-    ensures gives { Gives (λ s. s) result (sheet_of_text bytes.now) }
+    ensures gives { ReadsAs (λ s. s) result (sheet_of_text bytes.now) }
     ensures valid { IfOk result IsValidSheet }
 {
     sheet_of(alloc, &document(alloc, bytes)?)

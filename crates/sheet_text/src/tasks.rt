@@ -7,13 +7,13 @@ ghost use Rattle.curve.specs.Validity.{IsCurve};
 ghost use Rattle.lists.specs.Ranges.{is_between};
 ghost use Rattle.task_sheet.specs.Rules.{is_name as is_name_of, task_rule, tasks_rule};
 ghost use Rattle.task_sheet.specs.Sheets.{no_task};
-ghost use Rattle.sheet_text.specs.Readings.{Gives};
+ghost use Rattle.sheet_text.specs.Readings.{ReadsAs};
 ghost use Rattle.sheet_text.specs.Documents.{whole_rule};
 ghost use Rattle.sheet_text.specs.TaskRows.{name_rule, unsaid_priority as unsaid_of, priority_rule, task_of as task_of_value, tasks_after};
 
 use crate::arrivals::arrivals;
 use crate::cuts::preemption;
-use crate::document::{check_keys, needed};
+use crate::document::{check_keys, needed_value};
 use crate::numbers::{GREATEST, positive, whole};
 use indexmap::IndexSet;
 use lists::Text;
@@ -39,10 +39,13 @@ fn new_name<'a>(
     n: u32,
     names: &mut IndexSet<String>,
 ) -> Result<&'a str, SheetRefusal>
-    ensures gives { Gives (λ s. s.now) result (name_rule n (map string_bytes names.old.keys) (string name.now)) }
-    ensures kept { IfOk result (λ s. map string_bytes names.new.keys ≡ map string_bytes names.old.keys ++ s.now ∷ []) }
+    ensures gives { ReadsAs (λ s. s.now) result
+        (name_rule n (map string_bytes names.old.keys) (string name.now)) }
+    ensures kept { IfOk result (λ s. map string_bytes names.new.keys ≡
+        map string_bytes names.old.keys ++ s.now ∷ []) }
     ensures plain { IfOk result (λ s. is_name_of s.now ≡ true) }
-    ensures fresh { IfOk result (λ s. list_any (bytes_eq s.now) (map string_bytes names.old.keys) ≡ false) }
+    ensures fresh { IfOk result (λ s.
+        list_any (bytes_eq s.now) (map string_bytes names.old.keys) ≡ false) }
 {
     if !is_name(name) {
         return Err(SheetRefusal::Range {
@@ -64,10 +67,13 @@ fn name_of<'a>(
     n: u32,
     names: &mut IndexSet<String>,
 ) -> Result<&'a str, SheetRefusal>
-    ensures gives { Gives (λ s. s.now) result (name_rule n (map string_bytes names.old.keys) (view value.now)) }
-    ensures kept { IfOk result (λ s. map string_bytes names.new.keys ≡ map string_bytes names.old.keys ++ s.now ∷ []) }
+    ensures gives { ReadsAs (λ s. s.now) result
+        (name_rule n (map string_bytes names.old.keys) (view value.now)) }
+    ensures kept { IfOk result (λ s. map string_bytes names.new.keys ≡
+        map string_bytes names.old.keys ++ s.now ∷ []) }
     ensures plain { IfOk result (λ s. is_name_of s.now ≡ true) }
-    ensures fresh { IfOk result (λ s. list_any (bytes_eq s.now) (map string_bytes names.old.keys) ≡ false) }
+    ensures fresh { IfOk result (λ s.
+        list_any (bytes_eq s.now) (map string_bytes names.old.keys) ≡ false) }
 {
     match value {
         Value::String(name) => new_name(alloc, name.as_str(), n, names),
@@ -118,14 +124,21 @@ fn task_of(
     names: &mut IndexSet<String>,
     value: &Value,
 ) -> Result<Task, SheetRefusal>
-    ensures gives { Gives (λ t. t) result (task_of_value policy n (map string_bytes names.old.keys) (view value.now)) }
-    ensures kept { IfOk result (λ t. map string_bytes names.new.keys ≡ map string_bytes names.old.keys ++ t.name ∷ []) }
+    ensures gives { ReadsAs (λ t. t) result
+        (task_of_value policy n (map string_bytes names.old.keys) (view value.now)) }
+    ensures kept { IfOk result (λ t. map string_bytes names.new.keys ≡
+        map string_bytes names.old.keys ++ t.name ∷ []) }
     ensures rule { IfOk result (λ t. task_rule n (map string_bytes names.old.keys) t ≡ Ok tt) }
     ensures curve { IfOk result (λ t. IsCurve t.curve) }
 {
     let place = Place::Task(n);
     check_keys(value, &TASK_KEYS, place)?;
-    let name = name_of(alloc, needed(value, "name", place, Field::Name)?, n, names)?;
+    let name = name_of(
+        alloc,
+        needed_value(value, "name", place, Field::Name)?,
+        n,
+        names,
+    )?;
     let cost = positive(value, "cost", place, Field::Cost)?;
     let deadline = positive(value, "deadline", place, Field::Deadline)?;
     let priority = priority_of(policy, place, value)?;
@@ -136,6 +149,8 @@ fn task_of(
         cost,
         deadline,
         priority,
+        jitter: 0,
+        point: 0,
         curve,
         cut,
     })
@@ -149,9 +164,10 @@ pub fn tasks_of(
     items: &[Value],
 ) -> Result<Vec<Task>, SheetRefusal>
     requires { length items.now ≤ 256 }
-    ensures gives { Gives (λ v. v.items) result (tasks_after policy [] (items_view items.now)) }
+    ensures gives { ReadsAs (λ v. v.items) result (tasks_after policy [] (items_view items.now)) }
     ensures rules { IfOk result (λ v. tasks_rule 0 [] v.items ≡ Ok tt) }
-    ensures curves { IfOk result (λ v. (i : ℕ) → i < length v.items → IsCurve (slice_index_or v.items i no_task).curve) }
+    ensures curves { IfOk result (λ v. (i : ℕ) → i < length v.items →
+        IsCurve (slice_index_or v.items i no_task).curve) }
     ensures many { IfOk result (λ v. length v.items ≡ length items.now) }
 {
     let mut tasks = Vec::new(alloc);

@@ -3,7 +3,7 @@ use Rattle.std.proofs.Common.{◌≡◌, ℕ, zero, suc, ◌+◌, ◌*◌, ◌/�
 use Rattle.std.proofs.lemmas.Bool.{cases_eq, and_from, and_parts, leb-true, le-leb, eq-eqb, ne_eqb}
 use Rattle.std.specs.List.{list_all}
 use Rattle.lists.specs.Ranges.{is_between}
-use Rattle.task_sheet.specs.Rules.{is_positive}
+use Rattle.task_sheet.specs.Rules.{is_in_range}
 use Rattle.task_sheet.specs.Sheets.{IsTask, CutFits}
 use Rattle.task_sheet.specs.declared.tasks.Cut.{Cut}
 use Rattle.task_sheet.specs.declared.tasks.Cut.TheVariants.{Full, Never, Fixed, Floating}
@@ -11,7 +11,7 @@ use Rattle.task_sheet.specs.declared.tasks.Task.{Task}
 use Rattle.task_sheet.specs.declared.tasks.Job.{Job}
 use Rattle.preemption.specs.CutMeaning.{CutMeaning}
 use Rattle.preemption.specs.CutLaws.{IsTabledCut}
-use Rattle.preemption.specs.Cuts.{each_within, all_within, segments_fit, fits}
+use Rattle.preemption.specs.Cuts.{each_within, are_lengths_within, segments_fit, fits}
 use Rattle.preemption.specs.Segments.{sum_more}
 use Rattle.simulated_run.specs.declared.mode.Mode.{Mode}
 use Rattle.simulated_run.specs.declared.mode.Mode.TheVariants.{Dense, Seed}
@@ -20,10 +20,10 @@ use Rattle.simulated_run.specs.Jobs.{drawn_segments, rest_segment, floating_segm
 
 -- drawn segments: each within the task's
 
-pub drawn_within : (gs : List ℕ) (state : ℕ) → list_all is_positive gs ≡ true → each_within (drawn_segments gs state) gs ≡ true
+pub drawn_within : (gs : List ℕ) (state : ℕ) → list_all is_in_range gs ≡ true → each_within (drawn_segments gs state) gs ≡ true
 drawn_within [] state h = refl
 drawn_within (g ∷ gs) state h =
-    let p = and_parts (is_positive g) (list_all is_positive gs) h in
+    let p = and_parts (is_in_range g) (list_all is_in_range gs) h in
     let low = leb-true 1 g (and_parts (leb 1 g) (leb g 1000000000) p.0).0 in
     and_from (leb (1 + word state % g) g) _ (le-leb _ _ (omega arith)) (drawn_within gs (next state) p.1)
 
@@ -31,10 +31,10 @@ pub drawn_sum_low : (gs : List ℕ) (state : ℕ) → 1 ≤ length gs → 1 ≤ 
 drawn_sum_low [] state h = absurd (omega arith)
 drawn_sum_low (g ∷ gs) state h = omega (arith, sum_more (1 + word state % g) (drawn_segments gs (next state)))
 
-pub drawn_sum_high : (gs : List ℕ) (state : ℕ) → list_all is_positive gs ≡ true → sum (drawn_segments gs state) ≤ sum gs
+pub drawn_sum_high : (gs : List ℕ) (state : ℕ) → list_all is_in_range gs ≡ true → sum (drawn_segments gs state) ≤ sum gs
 drawn_sum_high [] state h = omega arith
 drawn_sum_high (g ∷ gs) state h =
-    let p = and_parts (is_positive g) (list_all is_positive gs) h in
+    let p = and_parts (is_in_range g) (list_all is_in_range gs) h in
     let low = leb-true 1 g (and_parts (leb 1 g) (leb g 1000000000) p.0).0 in
     omega (arith, drawn_sum_high gs (next state) p.1, sum_more (1 + word state % g) (drawn_segments gs (next state)), sum_more g gs)
 
@@ -52,9 +52,11 @@ pub bounds_sum : (n bound : ℕ) (rest : List ℕ) → sum (replicate n bound ++
 bounds_sum zero bound rest = omega arith
 bounds_sum (suc n) bound rest = omega (arith, sum_more bound (replicate n bound ++ rest), bounds_sum n bound rest)
 
-pub bounds_within : (n bound : ℕ) (rest : List ℕ) → 1 ≤ bound → all_within bound rest ≡ true → all_within bound (replicate n bound ++ rest) ≡ true
+pub bounds_within : (n bound : ℕ) (rest : List ℕ) → 1 ≤ bound → are_lengths_within bound rest ≡ true → are_lengths_within bound (replicate n bound ++ rest) ≡ true
 bounds_within zero bound rest low h = h
-bounds_within (suc n) bound rest low h = and_from _ _ (and_from (leb 1 bound) (leb bound bound) (le-leb 1 bound low) (le-leb bound bound (omega arith))) (bounds_within n bound rest low h)
+bounds_within (suc n) bound rest low h =
+    and_from _ _ (and_from (leb 1 bound) (leb bound bound) (le-leb 1 bound low) (le-leb bound bound (omega arith)))
+    (bounds_within n bound rest low h)
 
 pub rest_sum : (n : ℕ) → sum (rest_segment n) ≡ n
 rest_sum n = elim (cases_eq n 0) [
@@ -62,7 +64,7 @@ rest_sum n = elim (cases_eq n 0) [
   | inr p ↦ rw (ne_eqb n 0 p) (omega (arith, sum_more n []))
 ]
 
-pub rest_within : (bound n : ℕ) → n ≤ bound → all_within bound (rest_segment n) ≡ true
+pub rest_within : (bound n : ℕ) → n ≤ bound → are_lengths_within bound (rest_segment n) ≡ true
 rest_within bound n h = elim (cases_eq n 0) [
   | inl z ↦ rw (eq-eqb n 0 z) refl
   | inr p ↦ rw (ne_eqb n 0 p) (and_from _ true (and_from (leb 1 n) (leb n bound) (le-leb 1 n (omega arith)) (le-leb n bound h)) refl)
@@ -72,7 +74,7 @@ pub floating_sum : (bound cost : ℕ) → 1 ≤ bound → sum (floating_segments
 unfolding floating_segments
 floating_sum bound cost low = omega (arith, bounds_sum (cost / bound) bound (rest_segment (cost % bound)), rest_sum (cost % bound))
 
-pub floating_within : (bound cost : ℕ) → 1 ≤ bound → all_within bound (floating_segments bound cost) ≡ true
+pub floating_within : (bound cost : ℕ) → 1 ≤ bound → are_lengths_within bound (floating_segments bound cost) ≡ true
 unfolding floating_segments
 floating_within bound cost low = bounds_within (cost / bound) bound (rest_segment (cost % bound)) low (rest_within bound (cost % bound) (omega arith))
 
@@ -87,7 +89,7 @@ drawn_fits cost state h = record { low = omega arith; high = omega arith }
 
 fixed_fits : (segments : List ℕ) (cost state : ℕ) → CutFits cost (Fixed segments) → CostFits cost (sum (drawn_segments segments state))
 fixed_fits segments cost state f =
-    let parts = and_parts (is_between 1 1000 (length segments)) (list_all is_positive segments) f.0 in
+    let parts = and_parts (is_between 1 1000 (length segments)) (list_all is_in_range segments) f.0 in
     let counts = and_parts (leb 1 (length segments)) (leb (length segments) 1000) parts.0 in
     record { low = drawn_sum_low segments state (leb-true 1 (length segments) counts.0); high = omega (arith, drawn_sum_high segments state parts.1, f.1) }
 
@@ -100,12 +102,13 @@ cost_fits (Seed seed) (Floating bound) cost state h f = drawn_fits cost state h
 
 -- a job with these numbers
 abbrev job_of : ℕ → ℕ → ℕ → List ℕ → Job
-job_of o t cost segments = record { task = o; arrival = t; cost = cost; segs = segments }
+job_of o t cost segments = record { task = o; arrival = t; release = t; cost = cost; segs = segments }
 
 floats : (o t bound cost : ℕ) → 1 ≤ bound → segments_fit (Floating bound) (job_of o t cost (floating_segments bound cost)) ≡ true
 floats o t bound cost low = and_from _ _ (floating_within bound cost low) (eq-eqb _ _ (floating_sum bound cost low))
 
-segments_by_fit : (mode : Mode) (cut : Cut) (cost o t state : ℕ) → CutFits cost cut → segments_fit cut (job_of o t (cost_by mode cut cost state) (segments_by mode cut (cost_by mode cut cost state) state)) ≡ true
+segments_by_fit : (mode : Mode) (cut : Cut) (cost o t state : ℕ) → CutFits cost cut →
+    segments_fit cut (job_of o t (cost_by mode cut cost state) (segments_by mode cut (cost_by mode cut cost state) state)) ≡ true
 segments_by_fit Dense Full cost o t state f = refl
 segments_by_fit Dense Never cost o t state f = refl
 segments_by_fit Dense (Fixed segments) cost o t state f = and_from _ _ (each_itself segments) (eq-eqb _ _ f.1)
@@ -113,7 +116,7 @@ segments_by_fit Dense (Floating bound) cost o t state f = floats o t bound cost 
 segments_by_fit (Seed seed) Full cost o t state f = refl
 segments_by_fit (Seed seed) Never cost o t state f = refl
 segments_by_fit (Seed seed) (Fixed segments) cost o t state f =
-    let parts = and_parts (is_between 1 1000 (length segments)) (list_all is_positive segments) f.0 in
+    let parts = and_parts (is_between 1 1000 (length segments)) (list_all is_in_range segments) f.0 in
     and_from _ _ (drawn_within segments state parts.1) (eq-eqb _ _ refl)
 segments_by_fit (Seed seed) (Floating bound) cost o t state f = floats o t bound (drawn_cost cost state) f.0
 
@@ -134,10 +137,17 @@ module _ (mode : Mode) (task : Task) (ok : IsTask task) (o t state : ℕ) where
   unfolding new_job
   new_arrival = refl
 
+  pub new_release : (new_job mode task o t state).release ≡ t
+  unfolding new_job
+  new_release = refl
+
   -- a new job fits by the task's own cut
   pub new_fits : fits task (new_job mode task o t state) ≡ true
   unfolding new_job
-  new_fits = and_from _ _ (and_from _ _ (le-leb _ _ (cost_fits mode task.cut task.cost state ok.cost_low ok.cut).low) (le-leb _ _ (cost_fits mode task.cut task.cost state ok.cost_low ok.cut).high)) (segments_by_fit mode task.cut task.cost o t state ok.cut)
+  new_fits =
+      and_from _ _
+      (and_from _ _ (le-leb _ _ (cost_fits mode task.cut task.cost state ok.cost_low ok.cut).low) (le-leb _ _ (cost_fits mode task.cut task.cost state ok.cost_low ok.cut).high))
+      (segments_by_fit mode task.cut task.cost o t state ok.cut)
 
   -- and so by every kind of the table that serves the task
   pub new_fits_by : (m : CutMeaning) → IsTabledCut m task → m.fits task (new_job mode task o t state) ≡ true

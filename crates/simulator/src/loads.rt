@@ -2,7 +2,7 @@
 ghost use Rattle.std.specs.Prelude.{◌≡◌, ◌≤◌, ◌<◌, ◌^◌, true, length, sum, IfOk, OnOk, IfErr};
 ghost use Rattle.std.specs.List.{list_all};
 ghost use Rattle.task_sheet.specs.declared.tasks.Cut.TheVariants.{Fixed, Floating};
-ghost use Rattle.task_sheet.specs.Rules.{is_positive, are_positive};
+ghost use Rattle.task_sheet.specs.Rules.{is_in_range, are_in_range};
 ghost use Rattle.task_sheet.specs.Sheets.{CutFits};
 ghost use Rattle.simulated_run.specs.Words.{after};
 ghost use Rattle.simulated_run.specs.Jobs.{drawn_segments, floating_segments, cost_by, segments_by, words_by};
@@ -28,7 +28,7 @@ fn draw_segments(
     segments: &[u64],
     words: &mut SplitMix64,
 ) -> Result<Vec<u64>, AllocError>
-    requires { list_all is_positive segments.now ≡ true }
+    requires { list_all is_in_range segments.now ≡ true }
     ensures segments { IfOk result (λ segs. segs.items ≡ drawn_segments segments.now words.old) }
     ensures state { OnOk result (words.new ≡ after (length segments.now) words.old) }
 {

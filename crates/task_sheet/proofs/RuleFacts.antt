@@ -16,7 +16,7 @@ use Rattle.task_sheet.specs.declared.tasks.Task.{Task}
 use Rattle.task_sheet.specs.declared.refusal.SheetRefusal.{SheetRefusal}
 use Rattle.task_sheet.specs.SheetParts.{SheetParts}
 use Rattle.task_sheet.specs.Refusing.{◌>>=◌, holds}
-use Rattle.task_sheet.specs.Rules.{is_positive, is_name, supply_rule, cut_rule, task_rule, tasks_rule, check_of}
+use Rattle.task_sheet.specs.Rules.{is_in_range, is_name, is_priority_point, most_jitter, supply_rule, cut_rule, task_rule, tasks_rule, sheet_check_of}
 use Rattle.task_sheet.specs.Sheets.{parts_of, no_task, CutFits, IsPromise, IsTask, IsValidSheet}
 
 pub holds_means : (b : Bool) (e : SheetRefusal) → holds b e ≡ Ok tt → b ≡ true
@@ -30,17 +30,17 @@ both_hold (Err e) f y h = absurd (cc)
 pub holds_then : {B : Type 0} (b : Bool) (e : SheetRefusal) (f : Unit {0} → Result B SheetRefusal) → b ≡ true → (holds b e >>= f) ≡ f tt
 holds_then b e f h = rw h refl
 
-pub positive_low : (n : ℕ) → is_positive n ≡ true → 1 ≤ n
+pub positive_low : (n : ℕ) → is_in_range n ≡ true → 1 ≤ n
 positive_low n h = leb-true 1 n (and_parts _ _ h).0
 
-pub positive_high : (n : ℕ) → is_positive n ≡ true → n ≤ 1000000000
+pub positive_high : (n : ℕ) → is_in_range n ≡ true → n ≤ 1000000000
 positive_high n h = leb-true n 1000000000 (and_parts _ _ h).1
 
-pub positive_from : (n : ℕ) → 1 ≤ n → n ≤ 1000000000 → is_positive n ≡ true
+pub positive_from : (n : ℕ) → 1 ≤ n → n ≤ 1000000000 → is_in_range n ≡ true
 positive_from n h k = and_from _ _ (le-leb 1 n h) (le-leb n 1000000000 k)
 
 -- numbers in range have a sum
-pub sum_positive : (xs : List ℕ) → list_all is_positive xs ≡ true → sum xs ≤ length xs * 1000000000
+pub sum_positive : (xs : List ℕ) → list_all is_in_range xs ≡ true → sum xs ≤ length xs * 1000000000
 sum_positive [] h = omega arith
 sum_positive (x ∷ xs) h =
     let parts = and_parts _ _ h in
@@ -78,9 +78,11 @@ promise_passes (Promised horizon times) h = rw (positive_from horizon h.0 h.1, h
 pub record TaskPasses (names : List (List ℕ)) (t : Task) : Type 0 where
   pub name : is_name t.name ≡ true
   pub fresh : list_any (bytes_eq t.name) names ≡ false
-  pub cost : is_positive t.cost ≡ true
-  pub deadline : is_positive t.deadline ≡ true
+  pub cost : is_in_range t.cost ≡ true
+  pub deadline : is_in_range t.deadline ≡ true
   pub priority : t.priority ≤ 1000000000
+  pub jitter : t.jitter ≤ most_jitter
+  pub point : is_priority_point t.point ≡ true
   pub cut : CutFits t.cost t.cut
 
 not_false : (b : Bool) → not b ≡ true → b ≡ false
@@ -95,19 +97,25 @@ task_means n names t h =
     let c = both_hold _ _ _ b.0 in
     let d = both_hold _ _ _ c.0 in
     let e = both_hold _ _ _ d.0 in
+    let f = both_hold _ _ _ e.0 in
+    let g = both_hold _ _ _ f.0 in
     record {
-      name = holds_means _ _ e.0;
-      fresh = not_false _ (holds_means _ _ e.1);
-      cost = holds_means _ _ d.1;
-      deadline = holds_means _ _ c.1;
-      priority = leb-true t.priority 1000000000 (holds_means _ _ b.1);
+      name = holds_means _ _ g.0;
+      fresh = not_false _ (holds_means _ _ g.1);
+      cost = holds_means _ _ f.1;
+      deadline = holds_means _ _ e.1;
+      priority = leb-true t.priority 1000000000 (holds_means _ _ d.1);
+      jitter = leb-true t.jitter most_jitter (holds_means _ _ c.1);
+      point = holds_means _ _ b.1;
       cut = cut_means n t.cost t.cut a.1;
     }
 
 pub task_passes : (n : ℕ) (names : List (List ℕ)) (t : Task) → TaskPasses names t → task_rule n names t ≡ Ok tt
 unfolding task_rule
 task_passes n names t p =
-    rw (p.name, p.fresh, p.cost, p.deadline, le-leb t.priority 1000000000 p.priority, cut_passes n t.cost t.cut (positive_high t.cost p.cost) p.cut) refl
+    let priority = le-leb t.priority 1000000000 p.priority in
+    let jitter = le-leb t.jitter most_jitter p.jitter in
+    rw (p.name, p.fresh, p.cost, p.deadline, priority, jitter, p.point, cut_passes n t.cost t.cut (positive_high t.cost p.cost) p.cut) refl
 
 task_from : (names : List (List ℕ)) (t : Task) → IsCurve t.curve → TaskPasses names t → IsTask t
 task_from names t curve p = record {
@@ -117,6 +125,8 @@ task_from names t curve p = record {
   deadline_low = positive_low t.deadline p.deadline;
   deadline_high = positive_high t.deadline p.deadline;
   priority_high = p.priority;
+  jitter_high = p.jitter;
+  point = p.point;
   curve = curve;
   cut = p.cut;
 }
@@ -128,6 +138,8 @@ task_back names t fresh p = record {
   cost = positive_from t.cost p.cost_low p.cost_high;
   deadline = positive_from t.deadline p.deadline_low p.deadline_high;
   priority = p.priority_high;
+  jitter = p.jitter_high;
+  point = p.point;
   cut = p.cut;
 }
 
@@ -137,7 +149,7 @@ pub record TasksPass (names : List (List ℕ)) (ts : List Task) : Type 0 where
   pub fresh : (i : ℕ) → i < length ts → list_any (bytes_eq (get_or ts i no_task).name) names ≡ false
   pub distinct : (i k : ℕ) → i < k → k < length ts → (get_or ts i no_task).name ≢ (get_or ts k no_task).name
 
-or_parts : (a b : Bool) → (a || b) ≡ false → (a ≡ false) × (b ≡ false)
+pub or_parts : (a b : Bool) → (a || b) ≡ false → (a ≡ false) × (b ≡ false)
 or_parts true b h = absurd (cc)
 or_parts false b h = (refl, h)
 
@@ -202,8 +214,8 @@ valid_from_rules p s ts curves supply some few tasks =
 pub tasks_from_valid : (s : SheetParts) → IsValidSheet s → tasks_rule 0 [] s.tasks ≡ Ok tt
 tasks_from_valid s valid = tasks_pass 0 [] s.tasks (record { each = valid.each; fresh = λ i l. refl; distinct = valid.distinct })
 
-pub rules_from_valid : (p : PolicyKind) (s : SupplySpec) (ts : List Task) → IsValidSheet (parts_of p s ts) → check_of p s ts ≡ Ok (parts_of p s ts)
-unfolding check_of
+pub rules_from_valid : (p : PolicyKind) (s : SupplySpec) (ts : List Task) → IsValidSheet (parts_of p s ts) → sheet_check_of p s ts ≡ Ok (parts_of p s ts)
+unfolding sheet_check_of
 rules_from_valid p s ts valid =
     let tasks : tasks_rule 0 [] ts ≡ Ok tt = tasks_from_valid _ valid in
     rw (promise_passes s valid.supply, and_from _ _ (le-leb 1 (length ts) valid.some) (le-leb (length ts) 256 valid.few), tasks) refl

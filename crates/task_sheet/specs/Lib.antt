@@ -1,4 +1,6 @@
 pub mod SheetParts
+pub mod Limits
 pub mod Refusing
 pub mod Rules
 pub mod Sheets
+pub mod Words

@@ -1,4 +1,4 @@
-use Rattle.std.specs.Prelude.{ℕ, ◌+◌, ◌==◌, ◌&&◌, Bool, true, not, List, [], ◌∷◌, ◌++◌, length, nat_le, nat_lt, sum, Result, Ok, bytes_eq}
+use Rattle.std.specs.Prelude.{ℕ, ℤ, pos, neg_ℤ, ◌+◌, ◌==◌, ◌&&◌, Bool, true, not, List, [], ◌∷◌, ◌++◌, length, nat_le, nat_lt, int_le, sum, Result, Ok, bytes_eq}
 use Rattle.std.specs.List.{list_all, list_any}
 use Rattle.lists.specs.Ranges.{is_between}
 use Rattle.task_sheet.specs.declared.tasks.PolicyKind.{PolicyKind}
@@ -14,17 +14,28 @@ use Rattle.task_sheet.specs.declared.refusal.SheetRefusal.TheVariants.{Range, Or
 use Rattle.task_sheet.specs.SheetParts.{SheetParts}
 use Rattle.task_sheet.specs.Refusing.{◌>>=◌, holds}
 
+-- the greatest jitter of a task
+unfoldable pub most_jitter : ℕ
+most_jitter = 0
+
+-- how far from 0 a priority point lies at most
+unfoldable pub most_point : ℕ
+most_point = 0
+
+abbrev pub is_priority_point : ℤ → Bool
+is_priority_point q = int_le (neg_ℤ (pos most_point)) q && int_le q (pos most_point)
+
 -- a number of a sheet that may not be 0
-abbrev pub is_positive : ℕ → Bool
-is_positive n = is_between 1 1000000000 n
+abbrev pub is_in_range : ℕ → Bool
+is_in_range n = is_between 1 1000000000 n
 
 -- 1 to 32 bytes, each printable and no space
 abbrev pub is_name : List ℕ → Bool
 is_name bytes = is_between 1 32 (length bytes) && list_all (is_between 33 126) bytes
 
 -- from one count to another, each in range
-abbrev pub are_positive : ℕ → List ℕ → Bool
-are_positive most numbers = is_between 1 most (length numbers) && list_all is_positive numbers
+abbrev pub are_in_range : ℕ → List ℕ → Bool
+are_in_range most numbers = is_between 1 most (length numbers) && list_all is_in_range numbers
 
 -- each number is greater than the one before
 abbrev pub rise_above : ℕ → List ℕ → Bool
@@ -41,8 +52,8 @@ are_times horizon times = rise_above 0 times && nat_le (last_number 0 times) hor
 
 abbrev pub promise_rule : ℕ → List ℕ → Result (Unit {0}) SheetRefusal
 promise_rule horizon times =
-    holds (is_positive horizon) (Range places.Supply fields.Horizon)
-    >>= (λ _. holds (are_positive 1000 times) (Range places.Supply fields.Times))
+    holds (is_in_range horizon) (Range places.Supply fields.Horizon)
+    >>= (λ _. holds (are_in_range 1000 times) (Range places.Supply fields.Times))
     >>= (λ _. holds (are_times horizon times) (Order places.Supply fields.Times))
 
 abbrev pub supply_rule : SupplySpec → Result (Unit {0}) SheetRefusal
@@ -51,7 +62,7 @@ supply_rule (Promised horizon times) = promise_rule horizon times
 
 abbrev pub segments_rule : ℕ → ℕ → List ℕ → Result (Unit {0}) SheetRefusal
 segments_rule n cost segments =
-    holds (are_positive 1000 segments) (Range (places.Task n) fields.Preemption)
+    holds (are_in_range 1000 segments) (Range (places.Task n) fields.Preemption)
     >>= (λ _. holds (sum segments == cost) (Sum n))
 
 -- how the preemption of task n fits its cost
@@ -60,7 +71,7 @@ cut_rule n cost Full = Ok tt
 cut_rule n cost Never = Ok tt
 cut_rule n cost (Fixed segments) = segments_rule n cost segments
 cut_rule n cost (Floating longest) =
-    holds (is_positive longest) (Range (places.Task n) fields.Preemption)
+    holds (is_in_range longest) (Range (places.Task n) fields.Preemption)
     >>= (λ _. holds (nat_le longest cost) (Sum n))
 
 -- task n, after tasks of these names
@@ -68,9 +79,11 @@ unfoldable pub task_rule : ℕ → List (List ℕ) → Task → Result (Unit {0}
 task_rule n names task =
     holds (is_name task.name) (Range (places.Task n) fields.Name)
     >>= (λ _. holds (not (list_any (bytes_eq task.name) names)) (Twice n))
-    >>= (λ _. holds (is_positive task.cost) (Range (places.Task n) fields.Cost))
-    >>= (λ _. holds (is_positive task.deadline) (Range (places.Task n) fields.Deadline))
+    >>= (λ _. holds (is_in_range task.cost) (Range (places.Task n) fields.Cost))
+    >>= (λ _. holds (is_in_range task.deadline) (Range (places.Task n) fields.Deadline))
     >>= (λ _. holds (nat_le task.priority 1000000000) (Range (places.Task n) fields.Priority))
+    >>= (λ _. holds (nat_le task.jitter most_jitter) (Range (places.Task n) fields.Jitter))
+    >>= (λ _. holds (is_priority_point task.point) (Range (places.Task n) fields.Point))
     >>= (λ _. cut_rule n task.cost task.cut)
 
 -- the tasks from number n on, after tasks of these names
@@ -79,8 +92,8 @@ tasks_rule n names [] = Ok tt
 tasks_rule n names (task ∷ tasks) = task_rule n names task >>= (λ _. tasks_rule (n + 1) (names ++ task.name ∷ []) tasks)
 
 -- the sheet of these parts, or the refusal of the first rule that they break
-unfoldable pub check_of : PolicyKind → SupplySpec → List Task → Result SheetParts SheetRefusal
-check_of policy supply tasks =
+unfoldable pub sheet_check_of : PolicyKind → SupplySpec → List Task → Result SheetParts SheetRefusal
+sheet_check_of policy supply tasks =
     supply_rule supply
     >>= (λ _. holds (is_between 1 256 (length tasks)) (Range places.Top fields.Task))
     >>= (λ _. tasks_rule 0 [] tasks)

@@ -4,25 +4,29 @@ ghost use Rattle.curve.specs.Validity.{IsCurve};
 ghost use Rattle.task_sheet.specs.Sheets.{no_task};
 ghost use Rattle.std.specs.List.{list_all, list_any};
 ghost use Rattle.lists.specs.Ranges.{is_between as is_between_of};
-ghost use Rattle.task_sheet.specs.Rules.{is_name as is_name_of, is_positive as is_positive_of, are_positive as are_positive_of, are_times as are_times_of, supply_rule, promise_rule, segments_rule, cut_rule, task_rule, tasks_rule, last_number, rise_above};
+ghost use Rattle.task_sheet.specs.Rules.{is_name as is_name_of, is_in_range as is_in_range_of, are_in_range as are_in_range_of, are_times as are_times_of, supply_rule, promise_rule, segments_rule, cut_rule, task_rule, tasks_rule, last_number, rise_above};
 ghost use Rattle.task_sheet.specs.Refusing.{holds as holds_of};
 
 use crate::refusal::{Field, Place, SheetRefusal};
 use crate::tasks::{Cut, SupplySpec, Task};
 
 const GREATEST: u64 = 1_000_000_000;
+/// The greatest jitter of a task.
+pub const MOST_JITTER: u64 = 0;
+/// How far from 0 a priority point lies at most.
+pub const MOST_POINT: i64 = 0;
 
-fn is_positive(n: u64) -> bool
-    ensures { result ≡ is_positive_of n }
+fn is_in_range(n: u64) -> bool
+    ensures { result ≡ is_in_range_of n }
 {
     1 <= n && n <= GREATEST
 }
 
-fn all_positive(numbers: &[u64]) -> bool
-    ensures { result ≡ list_all is_positive_of numbers.now }
+fn all_in_range(numbers: &[u64]) -> bool
+    ensures { result ≡ list_all is_in_range_of numbers.now }
 {
     for n in numbers {
-        if !is_positive(*n) {
+        if !is_in_range(*n) {
             return false;
         }
     }
@@ -30,10 +34,10 @@ fn all_positive(numbers: &[u64]) -> bool
 }
 
 /// 1 to 1,000 numbers, each in range.
-fn are_positive(numbers: &[u64]) -> bool
-    ensures { result ≡ are_positive_of 1000 numbers.now }
+fn are_in_range(numbers: &[u64]) -> bool
+    ensures { result ≡ are_in_range_of 1000 numbers.now }
 {
-    1 <= numbers.len() && numbers.len() <= 1000 && all_positive(numbers)
+    1 <= numbers.len() && numbers.len() <= 1000 && all_in_range(numbers)
 }
 
 fn all_printable(bytes: &[u8]) -> bool
@@ -104,14 +108,14 @@ fn check_promise(horizon: u64, times: &[u64]) -> Result<(), SheetRefusal>
 {
     let place = Place::Supply;
     holds(
-        is_positive(horizon),
+        is_in_range(horizon),
         SheetRefusal::Range {
             place,
             field: Field::Horizon,
         },
     )?;
     holds(
-        are_positive(times),
+        are_in_range(times),
         SheetRefusal::Range {
             place,
             field: Field::Times,
@@ -136,7 +140,7 @@ fn sum_of(numbers: &[u64]) -> u64
 fn check_segments(n: u32, cost: u64, segments: &[u64]) -> Result<(), SheetRefusal>
     ensures { result ≡ segments_rule n cost segments.now }
 {
-    if !are_positive(segments) {
+    if !are_in_range(segments) {
         return Err(SheetRefusal::Range {
             place: Place::Task(n),
             field: Field::Preemption,
@@ -157,7 +161,7 @@ pub fn check_cut(n: u32, cost: u64, cut: &Cut) -> Result<(), SheetRefusal>
                 place: Place::Task(n),
                 field: Field::Preemption,
             };
-            holds(is_positive(*longest), refusal)?;
+            holds(is_in_range(*longest), refusal)?;
             holds(*longest <= cost, SheetRefusal::Sum { task: n })
         }
     }
@@ -175,7 +179,7 @@ fn is_taken(name: &str, earlier: &[Task]) -> bool
     false
 }
 
-#[tactic(auto, unfolding(crate::specs::Rules::task_rule))]
+#[tactic(auto, unfolding(crate::specs::Rules::task_rule, crate::specs::Rules::most_jitter, crate::specs::Rules::most_point))]
 fn check_task(n: u32, earlier: &[Task], task: &Task) -> Result<(), SheetRefusal>
     ensures rule { result ≡ task_rule n (map (λ t. t.name) earlier.now) task.now }
     ensures curve { IsCurve task.now.curve }
@@ -194,14 +198,14 @@ fn check_task(n: u32, earlier: &[Task], task: &Task) -> Result<(), SheetRefusal>
         SheetRefusal::Twice { task: n },
     )?;
     holds(
-        is_positive(task.cost),
+        is_in_range(task.cost),
         SheetRefusal::Range {
             place,
             field: Field::Cost,
         },
     )?;
     holds(
-        is_positive(task.deadline),
+        is_in_range(task.deadline),
         SheetRefusal::Range {
             place,
             field: Field::Deadline,
@@ -212,6 +216,20 @@ fn check_task(n: u32, earlier: &[Task], task: &Task) -> Result<(), SheetRefusal>
         SheetRefusal::Range {
             place,
             field: Field::Priority,
+        },
+    )?;
+    holds(
+        task.jitter <= MOST_JITTER,
+        SheetRefusal::Range {
+            place,
+            field: Field::Jitter,
+        },
+    )?;
+    holds(
+        -MOST_POINT <= task.point && task.point <= MOST_POINT,
+        SheetRefusal::Range {
+            place,
+            field: Field::Point,
         },
     )?;
     check_cut(n, task.cost, &task.cut)

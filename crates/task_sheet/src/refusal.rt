@@ -25,6 +25,8 @@ pub enum Field {
     Cost,
     Deadline,
     Priority,
+    Jitter,
+    Point,
     Period,
     Curve,
     CurveHorizon,

@@ -1,4 +1,7 @@
 //! What a sheet says of its tasks, its policy and its supply.
+ghost use Rattle.std.specs.Prelude.{◌≡◌};
+ghost use Rattle.task_sheet.specs.Words.{policy_word};
+
 use curve::Prefix;
 use lists::{Items, Text};
 
@@ -11,6 +14,19 @@ pub enum PolicyKind {
     Edf,
     /// First in, first out.
     Fifo,
+}
+
+impl PolicyKind {
+    /// The word that names the policy in texts.
+    pub fn word(self) -> &'static str
+        ensures { result.now ≡ policy_word self }
+    {
+        match self {
+            PolicyKind::Fp => "fp",
+            PolicyKind::Edf => "edf",
+            PolicyKind::Fifo => "fifo",
+        }
+    }
 }
 
 /// What is promised of the processor.
@@ -46,6 +62,10 @@ pub struct Task {
     pub deadline: u64,
     /// A greater one is more urgent.
     pub priority: u64,
+    /// How long after its arrival a job may be released at most.
+    pub jitter: u64,
+    /// The priority point, relative to the arrival.
+    pub point: i64,
     /// How many jobs may arrive.
     pub curve: Prefix,
     pub cut: Cut,
@@ -57,6 +77,8 @@ pub struct Job {
     /// The task's number in its sheet.
     pub task: u32,
     pub arrival: u64,
+    /// From then on the job is ready: at its arrival, or later by its task's jitter at most.
+    pub release: u64,
     /// The service that it needs.
     pub cost: u64,
     /// The lengths between which it can be preempted, for a task with segments.

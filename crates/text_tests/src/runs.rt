@@ -1,7 +1,8 @@
 //! Runs written by hand.
 use lists::Items;
+use poet_io::TextRefusal;
 use run_model::{Run, Tick};
-use run_text::{RunRefusal, read_run, write_run};
+use run_text::{read_run, write_run};
 use std::alloc::{AllocError, Global};
 use std::test::Fail;
 use task_sheet::Job;
@@ -107,6 +108,7 @@ fn make_jobs(alloc: Global, rows: &[Row]) -> Result<Vec<Job>, AllocError> {
         jobs.push(Job {
             task: *task,
             arrival: *arrival,
+            release: *arrival,
             cost: *cost,
             segs: Items::new(segs.to_vec(alloc)?),
         })?;
@@ -133,6 +135,6 @@ fn runs_are_read_and_written(rt: HostRuntime) -> Result<(), Fail> {
 fn malformed_runs_are_refused_at_their_line(rt: HostRuntime) {
     for (bytes, line) in REFUSED {
         let answer = read_run(rt.alloc(), bytes);
-        assert_eq!(rt; answer, Err(RunRefusal::Text { line }));
+        assert_eq!(rt; answer, Err(TextRefusal::Line(line)));
     }
 }

@@ -1,11 +1,11 @@
 //! The verdict by a policy of one's own, on a sheet of two tasks.
-ghost use Rattle.std.specs.Prelude.{◌≡◌, true};
+ghost use Rattle.std.specs.Prelude.{◌≡◌, ◌≤◌, true};
 ghost use Rattle.preemption.specs.CutLaws.{Serves};
 ghost use Rattle.preemption.specs.Kinds.{full_meaning};
 
 use crate::ByNumber;
 use cert_check::{Verdict, check_cert};
-use curve::{Prefix, Step};
+use curve::Prefix;
 use lists::{Items, Text};
 use policy::Policy;
 use preemption::{FullCut, PerTask};
@@ -25,14 +25,18 @@ fn make_task(
     cost: u64,
     period: u64,
     priority: u64,
-) -> Result<Task, Fail> {
-    let steps = vec![in alloc; Step { time: 1, value: 1 }]?;
+) -> Result<Task, Fail>
+    requires low { 1 ≤ period }
+    requires high { period ≤ 1000000000 }
+{
     Ok(Task {
         name: Text::new(format!(in alloc; "{name}")?),
         cost,
         deadline: period,
         priority,
-        curve: Prefix::check(period, steps)?,
+        jitter: 0,
+        point: 0,
+        curve: Prefix::periodic(alloc, period)?,
         cut: Cut::Full,
     })
 }

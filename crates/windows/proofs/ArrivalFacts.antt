@@ -1,8 +1,8 @@
-use Rattle.std.proofs.Common.{◌≡◌, ℕ, zero, suc, ◌+◌, ◌-◌, ◌<◌, ◌≤◌, ◌⊎◌, ◌&&◌, Bool, true, false, cond, List, length, get_or, take, count_by, refl, ap, inl, inr, arith, leb, ltb}
+use Rattle.std.proofs.Common.{◌≡◌, ℕ, zero, suc, ◌+◌, ◌-◌, ◌<◌, ◌≤◌, ◌⊎◌, ◌&&◌, Bool, true, false, cond, List, [], ◌∷◌, ◌++◌, length, get_or, take, count_by, refl, ap, inl, inr, arith, leb, ltb}
 use Rattle.std.proofs.lemmas.Bool.{cases_lt}
 use Rattle.std.proofs.lemmas.Bool.Decides.{nat_tests}
 use Rattle.std.proofs.lemmas.List.{take_all, take-take}
-use Rattle.std.proofs.lemmas.List.Sums.{sum_by-take-le}
+use Rattle.std.proofs.lemmas.List.Sums.{sum_by-take-le, sum_by_push}
 use Rattle.std.proofs.lemmas.List.Sorted.{sum_by-IsPermutation}
 use Rattle.std.specs.List.Sorted.{IsPermutation}
 use Rattle.lists.proofs.SumFacts.{count_more}
@@ -105,3 +105,8 @@ arrived_between xs s u i m h low high =
 pub arrived_permuted : (xs ys : List ℕ) (s u : ℕ) → IsPermutation xs ys → arrived_in ys s u ≡ arrived_in xs s u
 unfolding arrived_in
 arrived_permuted xs ys s u same = sum_by-IsPermutation (λ x. cond {A = ℕ} (leb s x && ltb x u) 1 0) xs ys same
+
+-- the list with one arrival more
+pub arrived_push : (xs : List ℕ) (t s u : ℕ) → arrived_in (xs ++ t ∷ []) s u ≡ arrived_in xs s u + cond (leb s t && ltb t u) 1 0
+unfolding arrived_in
+arrived_push xs t s u = sum_by_push (λ a. cond {A = ℕ} (leb s a && ltb a u) 1 0) xs t

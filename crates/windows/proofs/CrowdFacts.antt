@@ -1,22 +1,22 @@
-use Rattle.std.proofs.Common.{◌≡◌, ℕ, zero, suc, ◌+◌, ◌-◌, ◌==◌, ◌<◌, ◌≤◌, ◌⊎◌, ◌&&◌, ◌||◌, Bool, true, false, cond, List, [], ◌∷◌, length, get_or, take, count_by, map, filter, Option, Some, None, refl, sym, ◌∙◌, ap, subst, inl, inr, arith, leb, ltb}
+use Rattle.std.proofs.Common.{◌≡◌, ℕ, suc, ◌+◌, ◌-◌, ◌==◌, ◌<◌, ◌≤◌, ◌⊎◌, ◌&&◌, ◌||◌, Bool, true, false, cond, List, [], ◌∷◌, length, get_or, count_by, map, filter, Option, Some, None, refl, sym, ◌∙◌, ap, subst, inl, inr, arith, leb, ltb}
 use Rattle.std.specs.List.Sorted.{IsPermutation, IsNonDecreasing}
-use Rattle.std.proofs.Math.Seq.{take-length}
-use Rattle.std.proofs.lemmas.Bool.{cases_lt, cases_eq, cases_Bool}
+use Rattle.std.proofs.lemmas.Bool.{cases_lt, cases_Bool}
 use Rattle.std.proofs.lemmas.Bool.Decides.{nat_tests}
 use Rattle.std.proofs.lemmas.List.Sums.{sum_by-cons}
 use Rattle.lists.specs.Searches.{IsFirstBelow}
-use Rattle.lists.proofs.SumFacts.{count_more}
 use Rattle.curve.specs.Curves.{alpha_of}
 use Rattle.task_sheet.specs.declared.tasks.Job.{Job}
 use Rattle.task_sheet.specs.declared.tasks.Task.{Task}
 use Rattle.task_sheet.specs.SheetParts.{SheetParts}
 use Rattle.task_sheet.specs.Sheets.{task_at}
 use Rattle.run_model.specs.declared.run.Run.{Run}
-use Rattle.run_model.specs.Runs.{job_at, no_job}
-use Rattle.schedule_laws.specs.Compliance.{arrives_in, arrivals_of}
-use Rattle.schedule_laws.specs.Tests.{AreOf, AreEarly, IsCrowded}
+use Rattle.run_model.specs.Runs.{job_at}
+use Rattle.schedule_laws.specs.Compliance.{arrivals_of}
+use Rattle.schedule_laws.specs.Tests.{AreOf, AreEarly, is_crowded}
+use Rattle.schedule_laws.proofs.TestFacts.{crowded_from, crowded_to}
+use Rattle.schedule_laws.proofs.CrowdFacts.{arrival_or_none, none_arrive}
 use Rattle.windows.specs.Arrivals.{arrived_in}
-use Rattle.windows.specs.Crowds.{IsNoLater, IsFirstJob, IsCrowdedOf, comes_first, earlier_of, ArrivesAt, task_arrivals, AreArrivals, IsCrowdedTick, IsFirstCrowdedTick}
+use Rattle.windows.specs.Crowds.{IsNoLater, IsFirstJob, IsCrowdedOf, comes_first, earlier_of, ArrivesAt, task_arrivals, AreArrivals, IsCrowdedTick, IsFirstCrowdedTick, IsFirstCrowded}
 use Rattle.windows.proofs.ArrivalFacts.{arrived_range, arrived_permuted}
 
 -- the same jobs are counted by their arrivals
@@ -55,47 +55,15 @@ are_arrivals run o xs ys is same up = record {
   same = λ s u. arrived_permuted xs ys s u same ∙ ap (λ (l : List ℕ). arrived_in l s u) is ∙ arrivals_listed run o s u;
 }
 
-not_there : (o t : ℕ) (j : Job) → (j.task ≡ o → j.arrival ≡ t → ⊥) → arrives_in o t (t + 1) j ≡ false
-not_there o t j h = grind (arith, nat_tests)
-
-none_front : (o t : ℕ) (run : Run) (n : ℕ) → n ≤ length run.jobs → ((k : ℕ) → k < n → ArrivesAt run o t k → ⊥) → count_by (arrives_in o t (t + 1)) (take n run.jobs) ≡ 0
-none_front o t run zero h none = refl
-none_front o t run (suc n) h none =
-    omega (
-      arith,
-      none_front o t run n (omega arith) (λ k b. none k (omega arith)),
-      count_more (arrives_in o t (t + 1)) run.jobs no_job n (omega arith),
-      ap (λ (b : Bool). cond {A = ℕ} b 1 0) (not_there o t (job_at run n) (λ e i. none n (omega arith) (record { task = e; arrival = i }))),
-    )
-
--- where no job of task o arrives at t, none arrives in that tick
-none_there : (run : Run) (o t : ℕ) → ((k : ℕ) → k < length run.jobs → ArrivesAt run o t k → ⊥) → arrivals_of run o t (t + 1) ≡ 0
-unfolding arrivals_of
-none_there run o t none = simp take-length at (none_front o t run (length run.jobs) (omega arith) none)
-
--- some job of task o arrives at t, or none among the first n
-some_or_none : (run : Run) (o t n : ℕ) → ((k : ℕ) × (k < n) × ArrivesAt run o t k) ⊎ ((k : ℕ) → k < n → ArrivesAt run o t k → ⊥)
-some_or_none run o t zero = inr (λ k b at. absurd (omega arith))
-some_or_none run o t (suc n) = elim (some_or_none run o t n) [
-  | inl k ↦ inl (k.0, omega (arith, k.1), k.2)
-  | inr none ↦ elim (cases_eq (job_at run n).task o) [
-    | inr ne ↦ inr (λ k b at. elim (cases_lt k n) [ inl c ↦ none k c at | inr c ↦ let e : k ≡ n = omega arith in ne (subst (λ w. (job_at run w).task ≡ o) e at.task) ])
-    | inl e ↦ elim (cases_eq (job_at run n).arrival t) [
-      | inl i ↦ inl (n, omega arith, record { task = e; arrival = i })
-      | inr ne ↦ inr (λ k b at. elim (cases_lt k n) [ inl c ↦ none k c at | inr c ↦ let e : k ≡ n = omega arith in ne (subst (λ w. (job_at run w).arrival ≡ t) e at.arrival) ])
-    ]
-  ]
-]
-
 module _ (run : Run) (o : ℕ) (xs : List ℕ) (are : AreArrivals run o xs) where
   -- each of the arrivals is that of a job
   pub arrival_job : (i : ℕ) → i < length xs → (k : ℕ) × (k < length run.jobs) × ArrivesAt run o (get_or xs i 0) k
-  arrival_job i b = elim (some_or_none run o (get_or xs i 0) (length run.jobs)) [
-    | inl k ↦ k
+  arrival_job i b = elim (arrival_or_none run o (get_or xs i 0)) [
+    | inl k ↦ (k.0, k.1, record { task = k.2; arrival = k.3 })
     | inr none ↦
         absurd (omega (
           arith,
-          none_there run o (get_or xs i 0) none,
+          none_arrive run o (get_or xs i 0) none,
           are.same (get_or xs i 0) (get_or xs i 0 + 1),
           arrived_range xs (get_or xs i 0) (get_or xs i 0 + 1) i (suc i) (omega arith) (λ k l m. are.ascending i k 0 l (omega arith)) (λ k l m. omega (arith, are.ascending k i 0 (omega arith) b)),
         ))
@@ -106,19 +74,21 @@ module _ (run : Run) (o : ℕ) (xs : List ℕ) (are : AreArrivals run o xs) wher
 
   module _ (sheet : SheetParts) where
     -- a crowded job, and the tick of its arrival
-    tick_of_job : (n : ℕ) → (job_at run n).task ≡ o → IsCrowded sheet run n → IsCrowdedTick (task_at sheet o).curve xs (job_at run n).arrival
-    tick_of_job n e crowd = record {
-      start = crowd.start;
-      within = crowd.within;
-      many = omega (arith, are.same crowd.start ((job_at run n).arrival + 1), subst (λ w. alpha_of (task_at sheet w).curve ((job_at run n).arrival + 1 - crowd.start) < arrivals_of run w crowd.start ((job_at run n).arrival + 1)) e crowd.many);
-    }
+    tick_of_job : (n : ℕ) → (job_at run n).task ≡ o → is_crowded sheet run n ≡ true → IsCrowdedTick (task_at sheet o).curve xs (job_at run n).arrival
+    tick_of_job n e h =
+        let crowd = crowded_from sheet run n h in
+        record {
+          start = crowd.start;
+          within = crowd.within;
+          many = omega (arith, are.same crowd.start ((job_at run n).arrival + 1), subst (λ w. alpha_of (task_at sheet w).curve ((job_at run n).arrival + 1 - crowd.start) < arrivals_of run w crowd.start ((job_at run n).arrival + 1)) e crowd.many);
+        }
 
-    job_of_tick : (n : ℕ) → (job_at run n).task ≡ o → IsCrowdedTick (task_at sheet o).curve xs (job_at run n).arrival → IsCrowded sheet run n
-    job_of_tick n e crowd = record {
+    job_of_tick : (n : ℕ) → (job_at run n).task ≡ o → IsCrowdedTick (task_at sheet o).curve xs (job_at run n).arrival → is_crowded sheet run n ≡ true
+    job_of_tick n e crowd = crowded_to sheet run n (record {
       start = crowd.start;
       within = crowd.within;
       many = subst (λ w. alpha_of (task_at sheet w).curve ((job_at run n).arrival + 1 - crowd.start) < arrivals_of run w crowd.start ((job_at run n).arrival + 1)) (sym e) (omega (arith, are.same crowd.start ((job_at run n).arrival + 1), crowd.many));
-    }
+    })
 
     pub none_of_task : IsFirstCrowdedTick (task_at sheet o).curve xs None → IsFirstJob (IsCrowdedOf sheet run o) run None
     none_of_task free n b crowd = free (job_at run n).arrival (tick_of_job n crowd.task crowd.crowded)
@@ -187,7 +157,7 @@ module _ (run : Run) (P Q R : ℕ → Type 0) (left : (n : ℕ) → P n → R n)
 -- a job of one of the first n tasks, crowded
 pub record IsCrowdedBelow (sheet : SheetParts) (run : Run) (n k : ℕ) : Type 0 where
   pub task : (job_at run k).task < n
-  pub crowded : IsCrowded sheet run k
+  pub crowded : is_crowded sheet run k ≡ true
 
 pub below_none : (sheet : SheetParts) (run : Run) → IsFirstJob (IsCrowdedBelow sheet run 0) run None
 below_none sheet run n b crowd = absurd (omega (arith, crowd.task))
@@ -203,7 +173,7 @@ below_more sheet run o a b p q =
     ])
     a b p q
 
-pub below_all : (sheet : SheetParts) (run : Run) (r : Option ℕ) → AreOf sheet run → IsFirstJob (IsCrowdedBelow sheet run (length sheet.tasks)) run r → IsFirstJob (IsCrowded sheet run) run r
+pub below_all : (sheet : SheetParts) (run : Run) (r : Option ℕ) → AreOf sheet run → IsFirstJob (IsCrowdedBelow sheet run (length sheet.tasks)) run r → IsFirstCrowded sheet run r
 below_all sheet run None of free = λ n b crowd. free n b (record { task = of n b; crowded = crowd })
 below_all sheet run (Some k) of first = (first.0, first.1.crowded, (λ n b crowd. first.2 n b (record { task = of n b; crowded = crowd })))
 

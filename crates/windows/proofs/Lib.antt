@@ -6,5 +6,3 @@ pub mod SpanFacts
 pub mod PairFacts
 pub mod CrowdFacts
 pub mod TickCounts
-pub mod PastFacts
-pub mod OffFacts

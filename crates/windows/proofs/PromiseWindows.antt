@@ -8,7 +8,7 @@ use Rattle.task_sheet.specs.declared.tasks.SupplySpec.{SupplySpec}
 use Rattle.task_sheet.specs.declared.tasks.SupplySpec.TheVariants.{Promised}
 use Rattle.supply.specs.Promises.{count_of, promised, sbf_of}
 use Rattle.supply.specs.Lawful.{test_holds, test_fails, rise_parts, count_none, Facts, facts_of}
-use Rattle.supply.proofs.PromiseFacts.{count_there, later_time, time_within}
+use Rattle.supply.proofs.PromiseFacts.{count_there, later_time, times_rise, time_within}
 use Rattle.windows.specs.Supplied.{ArePromised, MayBeOff}
 
 -- the last of the times that are counted
@@ -24,17 +24,6 @@ last_counted (t ∷ times) low d (suc k) rise e = elim (cases_lt d t) [
       (omega (arith, rest.0), rest.1)
   | inl c ↦ absurd (omega (arith, e, test_fails t d c, count_none times t d (rise_parts low t times rise).1 (omega arith)))
 ]
-
--- later times are greater
-time_mono : (times : List ℕ) (low i k : ℕ) → rise_above low times ≡ true → i ≤ k → k < length times → get_or times i 0 ≤ get_or times k 0
-time_mono [] low i k rise h l = absurd (omega arith)
-time_mono (t ∷ times) low zero zero rise h l = omega arith
-time_mono (t ∷ times) low zero (suc k) rise h l = omega (arith, later_time times t k (rise_parts low t times rise).1 (omega arith))
-time_mono (t ∷ times) low (suc i) zero rise h l = absurd (omega arith)
-time_mono (t ∷ times) low (suc i) (suc k) rise h l = time_mono times t i k (rise_parts low t times rise).1 (omega arith) (omega arith)
-
-one_more : (a b : ℕ) → (a + 1) * b ≡ a * b + b
-one_more a b = grind arith
 
 module _ (horizon : ℕ) (times : List ℕ) (f : Facts horizon times) where
   -- one more horizon
@@ -53,7 +42,6 @@ module _ (horizon : ℕ) (times : List ℕ) (f : Facts horizon times) where
         ap (λ (w : ℕ). w * count_of times horizon) one,
         ap (count_of times) none,
         count_none times 0 0 f.rise (omega arith),
-        one_more (d / horizon) (count_of times horizon),
       )
 
   -- up to the horizon the times are counted
@@ -95,7 +83,7 @@ module _ (horizon : ℕ) (times : List ℕ) (f : Facts horizon times) (counts : 
   pub have_rest : (i : ℕ) → HaveTimes times counts t i → t + 1 < get_or times i 0 → HaveTimes times counts t (length times)
   have_rest i have long k b c near = elim (cases_lt k i) [
     | inl l ↦ have k l c near
-    | inr l ↦ absurd (omega (arith, time_mono times 0 i k f.rise l c))
+    | inr l ↦ absurd (omega (arith, times_rise times 0 i k f.rise l c))
   ]
 
   short_window : HaveTimes times counts t (length times) → (s d : ℕ) → s ≤ t → s + d ≡ t + 1 → d ≤ horizon → (k : ℕ) → count_of times d ≡ k → k + get_or counts s 0 ≤ get_or counts t 0

@@ -30,9 +30,6 @@ alpha_is c ok d i h at =
     let zero_horizons : 0 * c.horizon + d ≡ d = omega arith in
     omega (arith, ap (alpha_of c) zero_horizons, alpha_at c ok 0 d h, last_value_at c.steps 0 0 0 d i ok.rising at.listed at.begun (λ l. rw add-one at (at.last (omega arith))))
 
-one_more : (a b : ℕ) → (a + 1) * b ≡ a * b + b
-one_more a b = grind arith
-
 -- one more horizon
 pub alpha_more : (c : Curve) → IsCurve c → (d : ℕ) → alpha_of c (d + c.horizon) ≡ alpha_of c d + alpha_of c c.horizon
 unfolding alpha_of value_of
@@ -50,7 +47,6 @@ alpha_more c ok d =
       ap (λ (w : ℕ). w * last_value 0 c.steps c.horizon) one,
       ap (last_value 0 c.steps) none,
       early,
-      one_more (d / c.horizon) (last_value 0 c.steps c.horizon),
     )
 
 -- the first step of a curve

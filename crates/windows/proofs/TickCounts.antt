@@ -1,16 +1,16 @@
-use Rattle.std.proofs.Common.{◌≡◌, ℕ, zero, suc, ◌+◌, ◌-◌, ◌<◌, ◌≤◌, Bool, true, false, not, cond, List, [], ◌∷◌, ◌++◌, length, get_or, refl, ap, inl, inr, arith, add-zero, add-suc, add-one}
-use Rattle.std.proofs.lemmas.Bool.{cases_lt}
+use Rattle.std.proofs.Common.{◌≡◌, ℕ, zero, suc, ◌+◌, ◌-◌, ◌<◌, ◌≤◌, Bool, true, false, cond, List, [], ◌∷◌, ◌++◌, length, get_or, ap, inl, inr, arith, add-zero, add-suc, add-one}
+use Rattle.std.proofs.lemmas.Bool.{cases_lt, both_ways, false_from_ne_true, true_from_ne_false}
 use Rattle.std.proofs.lemmas.List.{length-append, get_or_append_left, get_or-append_right}
-use Rattle.lists.proofs.SearchFacts.{find_below}
 use Rattle.run_model.specs.declared.run.Run.{Run}
 use Rattle.run_model.specs.declared.run.Tick.{Tick}
 use Rattle.run_model.specs.Runs.{tick_at, is_on, ticks_in}
 use Rattle.run_model.proofs.ServiceFacts.{ticks_in_none, ticks_in_more}
-use Rattle.schedule_laws.specs.Tests.{IsShort}
+use Rattle.schedule_laws.specs.Tests.{is_short}
+use Rattle.schedule_laws.proofs.TestFacts.{short_from, short_to}
 use Rattle.windows.specs.Supplied.{AreCounts, ArePromised, MayBeOff}
 
 -- the ticks before s + d, in two parts
-ticks_in_split : (test : Tick → Bool) (run : Run) (s d : ℕ) → s + d ≤ length run.ticks → ticks_in test run 0 (s + d) ≡ ticks_in test run 0 s + ticks_in test run s d
+pub ticks_in_split : (test : Tick → Bool) (run : Run) (s d : ℕ) → s + d ≤ length run.ticks → ticks_in test run 0 (s + d) ≡ ticks_in test run 0 s + ticks_in test run s d
 ticks_in_split test run s zero h = rw add-zero (omega (arith, ticks_in_none test run s))
 ticks_in_split test run s (suc d) h =
     let e : 0 + (s + d) ≡ s + d = omega arith in
@@ -47,18 +47,18 @@ module _ (sbf : ℕ → ℕ) (starts : sbf 0 ≡ 0) (grows : (d : ℕ) → (sbf 
       let e : s + (u - s) ≡ u = omega arith in
       omega (arith, are.each s (omega arith), are.each u l, ticks_in_split is_on run s (u - s) (omega arith), ap (ticks_in is_on run 0) e)
 
-  kept_by : ((v : ℕ) → v < t → IsShort sbf run (v + 1) → ⊥) → t ≤ length run.ticks → (s u : ℕ) → s ≤ u → u ≤ t → sbf (u - s) + get_or counts s 0 ≤ get_or counts u 0
+  kept_by : ((v : ℕ) → v < t → is_short sbf run (v + 1) ≡ false) → t ≤ length run.ticks → (s u : ℕ) → s ≤ u → u ≤ t → sbf (u - s) + get_or counts s 0 ≤ get_or counts u 0
   kept_by free m s zero h l =
       let z : s ≡ 0 = omega arith in
       let d : 0 - s ≡ 0 = omega arith in
       omega (arith, ap sbf d, ap (λ (w : ℕ). get_or counts w 0) z)
   kept_by free m s (suc v) h l = elim (cases_lt (ticks_in is_on run s (suc v - s)) (sbf (suc v - s))) [
-    | inl few ↦ absurd (free v (omega arith) (rw add-one (record { start = s; within = h; few = few })))
+    | inl few ↦ absurd (both_ways (is_short sbf run (suc v)) (rw add-one at (free v (omega arith))) (short_to sbf run (suc v) (record { start = s; within = h; few = few })))
     | inr enough ↦ omega (arith, window_of s (suc v) h l m)
   ]
 
   -- where no tick is short so far
-  pub are_promised : ((v : ℕ) → v < t → IsShort sbf run (v + 1) → ⊥) → t ≤ length run.ticks → ArePromised sbf counts t
+  pub are_promised : ((v : ℕ) → v < t → is_short sbf run (v + 1) ≡ false) → t ≤ length run.ticks → ArePromised sbf counts t
   are_promised free m = record { counted = are.counted; kept = kept_by free m }
 
   -- a window that ends with tick t
@@ -67,34 +67,35 @@ module _ (sbf : ℕ → ℕ) (starts : sbf 0 ≡ 0) (grows : (d : ℕ) → (sbf 
       let e : s + (t + 1 - s) ≡ t + 1 = omega arith in
       omega (arith, are.each s h, are.each t (omega arith), supplied_more run t l, ticks_in_split is_on run s (t + 1 - s) (omega arith), ap (ticks_in is_on run 0) e)
 
+  -- where every window that ends with tick t has the promised ticks, none is short
+  none_short : ((s : ℕ) → s ≤ t → sbf (t + 1 - s) ≤ ticks_in is_on run s (t + 1 - s)) → is_short sbf run (t + 1) ≡ false
+  none_short enough = false_from_ne_true (is_short sbf run (t + 1)) (λ h.
+      let short = short_from sbf run (t + 1) h in
+      elim (cases_lt t short.start) [
+        | inl c ↦
+            let d : t + 1 - short.start ≡ 0 = omega arith in
+            omega (arith, short.few, ap sbf d)
+        | inr c ↦ omega (arith, short.few, enough short.start c)
+      ])
+
   -- with a supplied tick no window is the first short one
-  pub on_fine : ArePromised sbf counts t → t < length run.ticks → is_on (tick_at run t) ≡ true → IsShort sbf run (t + 1) → ⊥
-  on_fine past l on short = elim (cases_lt t short.start) [
-    | inl c ↦
-        let d : t + 1 - short.start ≡ 0 = omega arith in
-        omega (arith, short.few, ap sbf d)
-    | inr c ↦
-        let d : t + 1 - short.start ≡ t - short.start + 1 = omega arith in
-        omega (arith, short.few, window_now short.start c l, ap (λ (b : Bool). cond {A = ℕ} b 1 0) on, past.kept short.start t c (omega arith), (grows (t - short.start)).1, ap sbf d)
-  ]
+  pub on_fine : ArePromised sbf counts t → t < length run.ticks → is_on (tick_at run t) ≡ true → is_short sbf run (t + 1) ≡ false
+  on_fine past l on = none_short (λ s c.
+      let d : t + 1 - s ≡ t - s + 1 = omega arith in
+      omega (arith, window_now s c l, ap (λ (b : Bool). cond {A = ℕ} b 1 0) on, past.kept s t c (omega arith), (grows (t - s)).1, ap sbf d))
 
-  pub off_fine : MayBeOff sbf counts t → t < length run.ticks → is_on (tick_at run t) ≡ false → IsShort sbf run (t + 1) → ⊥
-  off_fine may l off short = elim (cases_lt t short.start) [
-    | inl c ↦
-        let d : t + 1 - short.start ≡ 0 = omega arith in
-        omega (arith, short.few, ap sbf d)
-    | inr c ↦ omega (arith, short.few, window_now short.start c l, ap (λ (b : Bool). cond {A = ℕ} b 1 0) off, may short.start c)
-  ]
+  pub off_fine : MayBeOff sbf counts t → t < length run.ticks → is_on (tick_at run t) ≡ false → is_short sbf run (t + 1) ≡ false
+  off_fine may l off = none_short (λ s c. omega (arith, window_now s c l, ap (λ (b : Bool). cond {A = ℕ} b 1 0) off, may s c))
 
-  pub off_short : (MayBeOff sbf counts t → ⊥) → t < length run.ticks → is_on (tick_at run t) ≡ false → IsShort sbf run (t + 1)
-  off_short never l off = elim (find_below (λ s. sbf (t + 1 - s) + get_or counts s 0 ≤ get_or counts t 0) (λ s. get_or counts t 0 < sbf (t + 1 - s) + get_or counts s 0) (λ s. elim (cases_lt (get_or counts t 0) (sbf (t + 1 - s) + get_or counts s 0)) [ inl c ↦ inr c | inr c ↦ inl c ]) (t + 1)) [
-    | inl all ↦ absurd (never (λ s h. all s (omega arith)))
-    | inr s ↦ record {
-      start = s.0;
-      within = omega (arith, s.1);
-      few = omega (arith, s.2, window_now s.0 (omega (arith, s.1)) l, ap (λ (b : Bool). cond {A = ℕ} b 1 0) off);
-    }
-  ]
+  pub off_short : (MayBeOff sbf counts t → ⊥) → t < length run.ticks → is_on (tick_at run t) ≡ false → is_short sbf run (t + 1) ≡ true
+  off_short never l off = true_from_ne_false (is_short sbf run (t + 1)) (λ h. never (λ s c. elim (cases_lt (get_or counts t 0) (sbf (t + 1 - s) + get_or counts s 0)) [
+    | inr enough ↦ enough
+    | inl few ↦ absurd (both_ways (is_short sbf run (t + 1)) h (short_to sbf run (t + 1) (record {
+      start = s;
+      within = omega arith;
+      few = omega (arith, few, window_now s c l, ap (λ (b : Bool). cond {A = ℕ} b 1 0) off);
+    })))
+  ]))
 
 -- the counts so far, and the last of them
 pub record KeepsCount (run : Run) (xs : List ℕ) (t x : ℕ) : Type 0 where
@@ -114,11 +115,3 @@ pub count_off : (run : Run) (xs : List ℕ) (t x y : ℕ) → t < length run.tic
 count_off run xs t x y h kept off e =
     let is : y ≡ ticks_in is_on run 0 (t + 1) = omega (arith, kept.supplied, supplied_more run t h, ap (λ (b : Bool). cond {A = ℕ} b 1 0) off) in
     record { counts = counts_more run xs t y kept.counts is; supplied = is; few = omega (arith, kept.few) }
-
-pub refused : {P : Type 0} (b : Bool) → not b ≡ true → (P → b ≡ true) → P → ⊥
-refused true h f p = cc
-refused false h f p = let t = f p in cc
-
-pub refuses : {P : Type 0} (b : Bool) → (b ≡ true → P) → (P → ⊥) → not b ≡ true
-refuses true f g = absurd (g (f refl))
-refuses false f g = refl

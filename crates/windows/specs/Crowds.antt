@@ -1,5 +1,5 @@
 -- The first crowded job of a run.
-use Rattle.std.specs.Prelude.{◌≡◌, ℕ, ◌+◌, ◌-◌, ◌==◌, ◌<◌, ◌≤◌, ◌⊎◌, ◌&&◌, ◌||◌, List, Bool, cond, length, map, filter, nat_le, nat_lt, slice_index, Option, Some, None}
+use Rattle.std.specs.Prelude.{◌≡◌, ℕ, ◌+◌, ◌-◌, ◌==◌, ◌<◌, ◌≤◌, ◌⊎◌, ◌&&◌, ◌||◌, List, Bool, true, cond, length, map, filter, nat_le, nat_lt, slice_index, Option, Some, None}
 use Rattle.std.specs.List.Sorted.{IsNonDecreasing}
 use Rattle.lists.specs.Searches.{IsLeast}
 use Rattle.curve.specs.CurveValue.{Curve}
@@ -8,7 +8,7 @@ use Rattle.task_sheet.specs.SheetParts.{SheetParts}
 use Rattle.run_model.specs.declared.run.Run.{Run}
 use Rattle.run_model.specs.Runs.{job_at}
 use Rattle.schedule_laws.specs.Compliance.{arrivals_of}
-use Rattle.schedule_laws.specs.Tests.{IsCrowded}
+use Rattle.schedule_laws.specs.Tests.{is_crowded}
 use Rattle.windows.specs.Arrivals.{arrived_in}
 
 -- job k arrives before job n, or at the same tick and has no greater number
@@ -22,12 +22,12 @@ IsFirstJob P run (Some k) = (k < length run.jobs) × P k × ((n : ℕ) → n < l
 
 -- the first crowded job
 abbrev pub IsFirstCrowded : SheetParts → Run → Option ℕ → Type 0
-IsFirstCrowded sheet run = IsFirstJob (IsCrowded sheet run) run
+IsFirstCrowded sheet run = IsFirstJob (λ k. is_crowded sheet run k ≡ true) run
 
 -- job n is of task o, and crowded
 pub record IsCrowdedOf (sheet : SheetParts) (run : Run) (o n : ℕ) : Type 0 where
   pub task : (job_at run n).task ≡ o
-  pub crowded : IsCrowded sheet run n
+  pub crowded : is_crowded sheet run n ≡ true
 
 -- whether job k arrives before job n, or at the same tick and has no greater number
 abbrev pub comes_first : Run → ℕ → ℕ → Bool

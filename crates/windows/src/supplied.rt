@@ -1,12 +1,12 @@
 //! Whether as many ticks are supplied as promised.
-ghost use Rattle.std.specs.Prelude.{◌≡◌, ◌+◌, ◌<◌, ◌≤◌, ◌↔◌, ℕ, length, IsTrue, IfOk};
+ghost use Rattle.std.specs.Prelude.{◌≡◌, ◌+◌, ◌<◌, ◌≤◌, ◌↔◌, ℕ, length, true, false, IsTrue, IfOk};
 ghost use Rattle.lists.specs.Searches.{IsFirstBelow};
-ghost use Rattle.run_model.specs.Runs.{is_on as is_on_by};
-ghost use Rattle.schedule_laws.specs.Tests.{IsShort};
+ghost use Rattle.schedule_laws.specs.Tests.{is_short as is_short_by};
 ghost use Rattle.supply.specs.Promises.{sbf_of};
 ghost use Rattle.windows.specs.Supplied.{ArePromised, MayBeOff, AreCounts};
 
-use run_model::{Run, Tick};
+use run_model::Run;
+use schedule_laws::is_on;
 use std::alloc::{AllocError, Global};
 use task_sheet::{Sheet, SupplySpec};
 
@@ -33,16 +33,6 @@ pub fn off_allowed(sheet: &Sheet, counts: &[u64], t: u64) -> bool
     true
 }
 
-/// Whether the tick is supplied.
-fn is_on(tick: Tick) -> bool
-    ensures { result ≡ is_on_by tick }
-{
-    match tick {
-        Tick::Idle | Tick::Runs(_) => true,
-        Tick::Off => false,
-    }
-}
-
 /// Whether some window that ends with tick `t` has fewer supplied ticks than promised, where none
 /// that ends earlier has.
 ///
@@ -50,8 +40,8 @@ fn is_on(tick: Tick) -> bool
 fn is_short(sheet: &Sheet, run: &Run, counts: &[u64], t: u64) -> bool
     requires tick { t < length run.now.ticks }
     requires counts { AreCounts run.now counts.now t }
-    requires free { (u : ℕ) → u < t → IsShort (sbf_of sheet.now.supply) run.now (u + 1) → ⊥ }
-    ensures { IsTrue result ↔ IsShort (sbf_of sheet.now.supply) run.now (t + 1) }
+    requires free { (u : ℕ) → u < t → is_short_by (sbf_of sheet.now.supply) run.now (u + 1) ≡ false }
+    ensures { result ≡ is_short_by (sbf_of sheet.now.supply) run.now (t + 1) }
 {
     let _tasks = sheet.len();
     !is_on(run.ticks.as_slice()[t as usize]) && !off_allowed(sheet, counts, t)
@@ -60,7 +50,7 @@ fn is_short(sheet: &Sheet, run: &Run, counts: &[u64], t: u64) -> bool
 /// The first tick with which some window ends that has fewer supplied ticks than promised.
 pub fn first_short(alloc: Global, sheet: &Sheet, run: &Run) -> Result<Option<u64>, AllocError>
     requires { length run.now.ticks ≤ 100000 }
-    ensures { IfOk result (λ r. IsFirstBelow (λ t. IsShort (sbf_of sheet.now.supply) run.now (t + 1)) (length run.now.ticks) r) }
+    ensures { IfOk result (λ r. IsFirstBelow (λ t. is_short_by (sbf_of sheet.now.supply) run.now (t + 1) ≡ true) (length run.now.ticks) r) }
 {
     let mut supplied = 0;
     let mut counts = vec![in alloc; supplied]?;

@@ -67,6 +67,7 @@ fn assert_job(
     let job = Job {
         task: 1,
         arrival: 0,
+        release: 0,
         cost,
         segs: Items::new(Vec::new(alloc)),
     };

@@ -6,5 +6,5 @@ use Rattle.demand.proofs.needs.class_demand.Given as goal
 abbrev pub invariant-loop-o : goal.invariant-loop-o
 invariant-loop-o g l = record {
   sum : l.sum ≡ sum_below (class_part_of g.P.Policy.meaning l.sheet l.i l.l) l.o;
-  small : l.sum ≤ l.o * 2 ^ 80;
+  small : l.sum ≤ l.o * 2 ^ 81;
 }

@@ -22,8 +22,8 @@ unfolding text_report_of
 returns c =
     let rows : take c.loop-i.i (rows_of c.args.sheet.now c.args.cert.now) ≡ rows_of c.args.sheet.now c.args.cert.now = all_rows c.args.sheet.now.tasks c.args.cert.now.entries c.loop-i.i (omega (arith, c.len-i-end.ensures.len)) in
     let body = rw rows at c.loop-i.invariant in
-    let last : string_bytes c.writeln.new.self ≡ string_bytes c.loop-i.text ++ (codes "tasks " ++ (decimal c.len-tasks.result ++ (codes " missed " ++ (decimal c.missed-missed.result ++ codes "\n")))) = c.in_ok-writeln.ensures.bytes in
+    let last : string_bytes c.writeln.new.self ≡ string_bytes c.loop-i.text ++ (codes "tasks " ++ (decimal c.len-tasks.result ++ (codes " missed " ++ (decimal c.count_missed-missed.result ++ codes "\n")))) = c.in_ok-writeln.ensures.bytes in
     let count : c.len-tasks.result ≡ length (rows_of c.args.sheet.now c.args.cert.now) = c.len-tasks.ensures.len ∙ sym (rows_count c.args.sheet.now.tasks c.args.cert.now.entries c.requires.tasks) in
-    let whole = rw (count, c.missed-missed.ensures) at last in
+    let whole = rw (count, c.count_missed-missed.ensures) at last in
     let bytes : c.into_bytes.result.items ≡ string_bytes c.writeln.new.self = search rules in
-    bytes ∙ whole ∙ ap (λ (x : List ℕ). x ++ last_line (rows_of c.args.sheet.now c.args.cert.now)) body ∙ append_assoc header (flat_map row_line (rows_of c.args.sheet.now c.args.cert.now)) (last_line (rows_of c.args.sheet.now c.args.cert.now))
+    record { bytes = bytes ∙ whole ∙ ap (λ (x : List ℕ). x ++ last_line (rows_of c.args.sheet.now c.args.cert.now)) body ∙ append_assoc header (flat_map row_line (rows_of c.args.sheet.now c.args.cert.now)) (last_line (rows_of c.args.sheet.now c.args.cert.now)) }

@@ -3,7 +3,9 @@ use Rattle.std.proofs.lemmas.Bool.{both_ways}
 use Rattle.run_text.specs.Drafts.{part_of}
 use Rattle.run_text.specs.Parsing.{run_of_text}
 use Rattle.run_text.proofs.ReadOnFacts.{between, on_byte, on_line, on_refusal, on_whole, on_end}
-use Rattle.run_text.proofs.ReadingFacts.{reading_given}
+use Rattle.poet_io.proofs.TextFacts.{reading_given}
+use Rattle.run_text.specs.Text.{run_format}
+use Rattle.run_text.proofs.ReadingFacts.{one_reading_each}
 use Rattle.run_text.proofs.reading.read_run.Goals as goal
 use Rattle.run_text.proofs.reading.read_run.Goals.{then-byte-eq10+in_ok-take+else-not-branch, else-byte-eq10, else-is_over-via-then-is_over+else-start-bytes, else-is_over-via-else-is_over}
 
@@ -49,10 +51,10 @@ returns-clause-gives c =
     ])
 
 pub returns-then-not-branch-clause-refused : goal.returns-then-not-branch-clause-refused
-returns-then-not-branch-clause-refused c = λ no_memory. reading_given c.args.bytes.now _ (returns-then-not-branch-clause-gives c no_memory)
+returns-then-not-branch-clause-refused c = λ no_memory. reading_given run_format run_of_text one_reading_each c.args.bytes.now _ (returns-then-not-branch-clause-gives c no_memory)
 
 pub returns-then-start-bytes-clause-found : goal.returns-then-start-bytes-clause-found
-returns-then-start-bytes-clause-found c = reading_given c.args.bytes.now _ (returns-then-start-bytes-clause-gives c)
+returns-then-start-bytes-clause-found c = reading_given run_format run_of_text one_reading_each c.args.bytes.now _ (returns-then-start-bytes-clause-gives c)
 
 pub returns-clause-refused : goal.returns-clause-refused
-returns-clause-refused c = λ no_memory. reading_given c.args.bytes.now _ (returns-clause-gives c no_memory)
+returns-clause-refused c = λ no_memory. reading_given run_format run_of_text one_reading_each c.args.bytes.now _ (returns-clause-gives c no_memory)

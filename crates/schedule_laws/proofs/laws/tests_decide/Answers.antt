@@ -1,4 +1,4 @@
-use Rattle.schedule_laws.proofs.TestFacts.{complies, passes}
+use Rattle.schedule_laws.proofs.ComplianceFacts.{complies, passes}
 use Rattle.schedule_laws.proofs.laws.tests_decide.Goals as goal
 
 pub returns : goal.returns

@@ -1,4 +1,5 @@
-use Rattle.std.proofs.Common.{◌≡◌, ℕ, ◌+◌, List, true, false, sym, subst, arith, below_more}
+use Rattle.std.proofs.Common.{◌≡◌, ℕ, ◌+◌, List, true, false, sym, ◌∙◌, subst, arith, below_more}
+use Rattle.std.proofs.lemmas.Bool.{both_ways}
 use Rattle.run_model.specs.Runs.{tick_at, is_on}
 use Rattle.windows.proofs.TickCounts.{KeepsCount, count_start, count_on, count_off}
 use Rattle.windows.proofs.supplied.first_short.Goals as goal
@@ -19,8 +20,8 @@ loop-t-preserved c =
             let off : is_on (tick_at c.args.run.now c.loop-t.t) ≡ false = cc in
             count_off c.args.run.now c.loop-t.counts.items t c.loop-t.supplied c.if-is_on.supplied (omega arith) c.loop-t.invariant.kept off w.supplied-is
       ]);
-      free = below_more _ _ c.loop-t.invariant.free (λ short. let found = c.is_short.ensures.1 short in absurd (cc));
+      free = below_more _ _ c.loop-t.invariant.free (sym c.is_short.ensures ∙ c.if-is_short.false);
     }
 
 pub returns : goal.returns
-returns c = λ k b. c.loop-t.invariant.free k (omega arith)
+returns c = λ k b short. both_ways _ (c.loop-t.invariant.free k (omega arith)) short

@@ -1,8 +1,9 @@
-use Rattle.std.proofs.Common.{◌≡◌, true, false, arith}
+use Rattle.std.proofs.Common.{◌≡◌, true, false, sym, ◌∙◌, inl, inr, arith}
+use Rattle.std.proofs.lemmas.Bool.{cases_Bool, both_ways, not_from_true}
 use Rattle.run_model.specs.Runs.{tick_at, is_on}
 use Rattle.supply.specs.Promises.{sbf_of}
 use Rattle.supply.specs.Lawful.{stated_starts, stated_grows}
-use Rattle.windows.proofs.TickCounts.{are_promised, on_fine, off_fine, off_short, refused, refuses}
+use Rattle.windows.proofs.TickCounts.{are_promised, on_fine, off_fine, off_short}
 use Rattle.windows.proofs.supplied.is_short.Goals as goal
 
 pub off_allowed-requires : goal.off_allowed-requires
@@ -15,17 +16,23 @@ pub returns-then-not-is_on : goal.returns-then-not-is_on
 returns-then-not-is_on c =
     let sheet = c.args.sheet.now in
     let valid = c.len-tasks.ensures.valid in
-    let off : is_on (tick_at c.args.run.now c.args.t) ≡ false = cc in (
-      (λ no. off_short (sbf_of sheet.supply) (stated_starts sheet valid) (λ d. stated_grows sheet d valid) c.args.run.now c.args.counts.now c.args.t c.requires.counts (refused c.off_allowed.result no c.off_allowed.ensures.1) c.requires.tick off),
-      (λ short. refuses c.off_allowed.result c.off_allowed.ensures.0 (λ may. off_fine (sbf_of sheet.supply) (stated_starts sheet valid) (λ d. stated_grows sheet d valid) c.args.run.now c.args.counts.now c.args.t c.requires.counts may c.requires.tick off short)),
-    )
+    let starts = stated_starts sheet valid in
+    let off : is_on (tick_at c.args.run.now c.args.t) ≡ false = cc in
+    elim (cases_Bool c.off_allowed.result) [
+      | inl may ↦
+          let fine = off_fine (sbf_of sheet.supply) starts (λ d. stated_grows sheet d valid) c.args.run.now c.args.counts.now c.args.t c.requires.counts (c.off_allowed.ensures.0 may) c.requires.tick off in
+          cc
+      | inr not_may ↦
+          let short = off_short (sbf_of sheet.supply) starts (λ d. stated_grows sheet d valid) c.args.run.now c.args.counts.now c.args.t c.requires.counts
+          (λ may. both_ways c.off_allowed.result not_may (c.off_allowed.ensures.1 may)) c.requires.tick off in
+          cc
+    ]
 
 pub returns-else-not-is_on : goal.returns-else-not-is_on
 returns-else-not-is_on c =
     let sheet = c.args.sheet.now in
     let valid = c.len-tasks.ensures.valid in
-    let on : is_on (tick_at c.args.run.now c.args.t) ≡ true = cc in (
-      (λ other. absurd (cc)),
-      (λ short. absurd (on_fine (sbf_of sheet.supply) (stated_starts sheet valid) (λ d. stated_grows sheet d valid) c.args.run.now c.args.counts.now c.args.t c.requires.counts
-          (are_promised (sbf_of sheet.supply) (stated_starts sheet valid) (λ d. stated_grows sheet d valid) c.args.run.now c.args.counts.now c.args.t c.requires.counts c.requires.free (omega arith)) c.requires.tick on short)),
-    )
+    let starts = stated_starts sheet valid in
+    let on : is_on (tick_at c.args.run.now c.args.t) ≡ true = cc in
+    let past = are_promised (sbf_of sheet.supply) starts (λ d. stated_grows sheet d valid) c.args.run.now c.args.counts.now c.args.t c.requires.counts c.requires.free (omega arith) in
+    not_from_true c.is_on.result c.if-not-is_on.false ∙ sym (on_fine (sbf_of sheet.supply) starts (λ d. stated_grows sheet d valid) c.args.run.now c.args.counts.now c.args.t c.requires.counts past c.requires.tick on)

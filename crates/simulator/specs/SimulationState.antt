@@ -1,0 +1,150 @@
+-- How the simulation stands to the run so far: the code's own invariants. Nothing here is to be believed.
+use Rattle.std.specs.Prelude.{◌≡◌, ◌≢◌, ℕ, ◌+◌, ◌<◌, ◌≤◌, List, Bool, true, false, length, Option, Some, None, slice_index_or}
+use Rattle.std.specs.BTreeMap.{BTreeMap, get, IsLowerBound}
+use Rattle.std.specs.Global.{Vec}
+use Rattle.task_sheet.specs.SheetParts.{SheetParts}
+use Rattle.task_sheet.specs.Sheets.{task_at}
+use Rattle.task_sheet.specs.declared.tasks.Cut.{Cut}
+use Rattle.task_sheet.specs.declared.tasks.Cut.TheVariants.{Full, Never, Fixed, Floating}
+use Rattle.task_sheet.specs.declared.tasks.Job.{Job}
+use Rattle.policy.specs.PolicyMeaning.{PolicyMeaning}
+use Rattle.preemption.specs.CutMeaning.{CutMeaning}
+use Rattle.preemption.specs.CutLaws.{IsLawfulCut, IsTabledCut}
+use Rattle.supply.specs.Promises.{sbf_of}
+use Rattle.run_model.specs.declared.run.Run.{Run}
+use Rattle.run_model.specs.declared.run.Tick.{Tick}
+use Rattle.run_model.specs.declared.run.Tick.TheVariants.{Off, Idle, Runs}
+use Rattle.run_model.specs.Runs.{job_at, tick_at, service_of}
+use Rattle.run_text.specs.Text.{segments_of}
+use Rattle.schedule_laws.specs.Compliance.{can_cut}
+use Rattle.simulated_run.specs.declared.mode.Mode.{Mode}
+use Rattle.simulated_run.specs.Jobs.{floating_segments}
+use Rattle.simulated_run.specs.SimulatedRun.{World, Moment, world_of}
+use Rattle.windows.specs.Crowds.{AreArrivals}
+use Rattle.windows.specs.Supplied.{AreCounts}
+use Rattle.simulator.specs.declared.simulation.Simulation.{Simulation}
+use Rattle.simulator.specs.declared.simulation.Rank.{Rank}
+use Rattle.simulator.specs.Simulations.{refused_by}
+use Rattle.simulator.specs.Ranks.{rank_of, rank_cmp}
+
+-- the world of a sheet with the supply that it states
+abbrev pub world_by : PolicyMeaning → CutMeaning → SheetParts → Mode → World
+world_by p m sheet mode = world_of p m (sbf_of sheet.supply) sheet mode
+
+-- the run so far
+abbrev pub run_of : Simulation → Run
+run_of simulation = record { jobs = simulation.jobs.items; ticks = simulation.ticks.items }
+
+-- with the generator's state
+abbrev pub moment_of : Simulation → Moment
+moment_of simulation = record { run = run_of simulation; state = simulation.words }
+
+-- the service that job k still needs
+abbrev pub left_at : List ℕ → ℕ → ℕ
+left_at left k = slice_index_or left k 0
+
+-- an entry of the queue
+pub record IsEntry (p : PolicyMeaning) (sheet : SheetParts) (jobs : List Job) (left : List ℕ) (q : Rank) (k : ℕ) : Type 0 where
+  pub listed : k < length jobs
+  pub waits : 0 < left_at left k
+  pub rank : q ≡ rank_of p sheet jobs k
+
+-- the queue has exactly the jobs that are not done
+pub record IsQueue (p : PolicyMeaning) (sheet : SheetParts) (jobs : List Job) (left : List ℕ) (queue : BTreeMap Rank ℕ) : Type 0 where
+  pub sound : (q : Rank) (k : ℕ) → get rank_cmp queue q ≡ Some k → IsEntry p sheet jobs left q k
+  pub complete : (k : ℕ) → k < length jobs → 0 < left_at left k → get rank_cmp queue (rank_of p sheet jobs k) ≡ Some k
+
+-- at most this one of the first n cannot be cut
+abbrev pub OnlyInside : (ℕ → Bool) → ℕ → Option ℕ → Type 0
+OnlyInside cut n None = (k : ℕ) → k < n → cut k ≡ true
+OnlyInside cut n (Some j) = (j < n) × (cut j ≡ false) × ((k : ℕ) → k < n → k ≢ j → cut k ≡ true)
+
+-- where the segments of a job float, all but the last are as long as may be
+abbrev pub FloatsBy : Cut → Job → Type 0
+FloatsBy Full j = Unit {0}
+FloatsBy Never j = Unit {0}
+FloatsBy (Fixed segments) j = Unit {0}
+FloatsBy (Floating bound) j = j.segs ≡ floating_segments bound j.cost
+
+-- a job that may be there at t
+pub record IsKnown (m : CutMeaning) (sheet : SheetParts) (t : ℕ) (j : Job) : Type 0 where
+  pub task : j.task < length sheet.tasks
+  pub arrived : j.arrival ≤ t
+  pub prompt : j.release ≡ j.arrival
+  pub cost : j.cost ≤ 1000000000
+  pub fits : m.fits (task_at sheet j.task) j ≡ true
+  pub floats : FloatsBy (task_at sheet j.task).cut j
+
+-- the jobs are within the limits
+pub record IsWithin (jobs : List Job) : Type 0 where
+  pub none : refused_by jobs ≡ None
+  pub few_jobs : length jobs ≤ 20000
+  pub few_segments : segments_of jobs ≤ 1000000
+
+-- what the simulation keeps of its jobs, before tick t
+pub record IsKeptAt (p : PolicyMeaning) (m : CutMeaning) (sheet : SheetParts) (t : ℕ) (run : Run) (left : List ℕ) (queue : BTreeMap Rank ℕ) (inside : Option ℕ) : Type 0 where
+  pub now : length run.ticks ≡ t
+  pub known : (k : ℕ) → k < length run.jobs → IsKnown m sheet t (job_at run k)
+  pub listed : (u k : ℕ) → u < t → tick_at run u ≡ Runs k → k < length run.jobs
+  pub lefts : length left ≡ length run.jobs
+  pub amounts : (k : ℕ) → k < length run.jobs → left_at left k + service_of run k t ≡ (job_at run k).cost
+  pub waiting : IsQueue p sheet run.jobs left queue
+  pub segment : OnlyInside (λ k. can_cut m sheet run k t) (length run.jobs) inside
+  pub within : IsWithin run.jobs
+
+-- for each of n tasks, when its jobs arrived
+pub record HasArrivals (n : ℕ) (run : Run) (lists : List (Vec ℕ)) : Type 0 where
+  pub tasks : length lists ≡ n
+  pub each : (o : ℕ) (d : Vec ℕ) → o < n → AreArrivals run o (slice_index_or lists o d).items
+
+-- what the simulation keeps before tick t
+pub record IsKeptBy (p : PolicyMeaning) (m : CutMeaning) (sheet : SheetParts) (t : ℕ) (run : Run) (left : List ℕ) (queue : BTreeMap Rank ℕ) (inside : Option ℕ) (total : ℕ) (lists : List (Vec ℕ)) (sums : List ℕ) : Type 0 where
+  pub jobs : IsKeptAt p m sheet t run left queue inside
+  pub segments : total ≡ segments_of run.jobs
+  pub arrivals : HasArrivals (length sheet.tasks) run lists
+  pub counts : AreCounts run sums t
+
+abbrev pub IsKept : PolicyMeaning → CutMeaning → SheetParts → ℕ → Simulation → Type 0
+IsKept p m sheet t simulation = IsKeptBy p m sheet t (run_of simulation) simulation.left.items simulation.queue simulation.inside simulation.segments simulation.arrivals.items simulation.counts.items
+
+-- where a job is inside a segment, it alone may run
+abbrev pub CanRun : Option ℕ → ℕ → Type 0
+CanRun None k = Unit {0}
+CanRun (Some j) k = k ≡ j
+
+-- the job of the least rank
+pub record IsFirstEntry (queue : BTreeMap Rank ℕ) (k : ℕ) : Type 0 where
+  pub rank : Rank
+  pub got : get rank_cmp queue rank ≡ Some k
+  pub least : IsLowerBound rank_cmp queue rank
+
+-- a tick that the simulation can take
+abbrev pub MayBe : Simulation → Tick → Type 0
+MayBe simulation Off = Unit {0}
+MayBe simulation Idle = Unit {0}
+MayBe simulation (Runs k) = (k < length simulation.jobs.items) × (0 < left_at simulation.left.items k) × CanRun simulation.inside k
+
+-- a job that the simulation can take up
+pub record IsNew (m : CutMeaning) (sheet : SheetParts) (jobs : List Job) (j : Job) : Type 0 where
+  pub known : IsKnown m sheet j.arrival j
+  pub positive : 1 ≤ j.cost
+  pub cut : m.cuttable (task_at sheet j.task) j 0 ≡ true
+  pub few_jobs : length jobs < 20000
+  pub few_segments : segments_of jobs + length j.segs ≤ 1000000
+
+-- all but what the simulation keeps of the jobs that are not done
+pub record KeepsRest (before after : Simulation) : Type 0 where
+  pub jobs : after.jobs ≡ before.jobs
+  pub ticks : after.ticks ≡ before.ticks
+  pub words : after.words ≡ before.words
+  pub segments : after.segments ≡ before.segments
+  pub arrivals : after.arrivals ≡ before.arrivals
+  pub counts : after.counts ≡ before.counts
+
+-- the cuts of a world are lawful
+abbrev pub HasCuts : World → Type 0
+HasCuts w = (o : ℕ) → o < length w.sheet.tasks → IsLawfulCut w.cuts (task_at w.sheet o)
+
+-- and those of the table
+abbrev pub IsTabled : World → Type 0
+IsTabled w = (o : ℕ) → o < length w.sheet.tasks → IsTabledCut w.cuts (task_at w.sheet o)

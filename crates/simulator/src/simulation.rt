@@ -1,0 +1,56 @@
+//! The state of a simulation.
+ghost use Rattle.std.specs.Prelude.{◌≡◌, ◌≤◌, ◌<◌, length};
+ghost use Rattle.simulator.specs.Ranks.{rank_at};
+
+use policy::Policy;
+use rand_xoshiro::SplitMix64;
+use run_model::Tick;
+use std::collections::BTreeMap;
+use task_sheet::{Job, Sheet};
+
+/// Where a job stands among those that are not done: by its key, then by its task, its arrival and
+/// its number.
+#[derive(Clone, Copy, Debug, PartialEq, Eq, PartialOrd, Ord)]
+pub struct Rank {
+    high: i64,
+    low: i64,
+    task: u32,
+    arrival: u64,
+    number: u32,
+}
+
+/// The run so far, and what the next tick needs.
+#[derive(Drop)]
+pub struct Simulation {
+    pub jobs: Vec<Job>,
+    pub ticks: Vec<Tick>,
+    pub words: SplitMix64,
+    /// The service that each job still needs.
+    pub left: Vec<u64>,
+    /// The jobs that are not done.
+    pub queue: BTreeMap<Rank, u32>,
+    /// The job that is inside a segment.
+    pub inside: Option<u32>,
+    /// How many segments the jobs have.
+    pub segments: usize,
+    /// For each task, when its jobs arrived, in ascending order.
+    pub arrivals: Vec<Vec<u64>>,
+    /// How many ticks before each tick were supplied.
+    pub counts: Vec<u64>,
+}
+
+/// The rank of a job with this number.
+pub fn rank_of<P: Policy>(sheet: &Sheet, job: &Job, number: u32) -> Rank
+    requires task { job.now.task < length sheet.now.tasks }
+    requires arrival { job.now.arrival ≤ 1000000000 }
+    ensures { result ≡ rank_at P.meaning sheet.now job.now number }
+{
+    let key = P::key(sheet, job);
+    Rank {
+        high: key.high,
+        low: key.low,
+        task: job.task,
+        arrival: job.arrival,
+        number,
+    }
+}

@@ -14,3 +14,12 @@ fn equal_by_elements(rt: HostRuntime) -> Result<(), Fail> {
     assert_ne!(rt; name, other);
     Ok(())
 }
+
+#[test]
+fn items_change_in_place(rt: HostRuntime) -> Result<(), Fail> {
+    let mut items = Items::new([1u64, 2].to_vec(rt.alloc())?);
+    items.push(3)?;
+    items.as_mut_slice()[0] = 4;
+    assert_eq!(rt; items.as_slice(), [4u64, 2, 3].as_slice());
+    Ok(())
+}

@@ -1,5 +1,5 @@
 //! Canonical decimals.
-use poet_io::{put_number, read_number, read_number_in};
+use poet_io::{put_number, put_wide, read_number, read_number_in};
 
 #[test]
 fn numbers_are_written(rt: HostRuntime) {
@@ -12,6 +12,22 @@ fn numbers_are_written(rt: HostRuntime) {
     for (n, text) in cases {
         let mut buf = [0u8; 20];
         let len = put_number(n, &mut buf);
+        assert_eq!(rt; &buf[..len], text, "at {n}");
+        let mut wide = [0u8; 39];
+        let len = put_wide(u128::from(n), &mut wide);
+        assert_eq!(rt; &wide[..len], text, "at {n}");
+    }
+}
+
+#[test]
+fn wide_numbers_are_written(rt: HostRuntime) {
+    let cases = [
+        (1 << 64, b"18446744073709551616".as_slice()),
+        (u128::MAX, b"340282366920938463463374607431768211455".as_slice()),
+    ];
+    for (n, text) in cases {
+        let mut buf = [0u8; 39];
+        let len = put_wide(n, &mut buf);
         assert_eq!(rt; &buf[..len], text, "at {n}");
     }
 }

@@ -11,7 +11,8 @@ use Rattle.poet_cli.specs.declared.refusal.Refusal.{Refusal}
 use Rattle.poet_cli.specs.declared.refusal.Refusal.TheVariants.{Usage, Read, Sheet, Text, Limit, Points, Jobs, Segments, Memory}
 use Rattle.poet_cli.specs.Refusals.{refusal_status, line_of, write_failed}
 use Rattle.poet_cli.specs.Endings.{Ending, printed_status, printed_text, ending_status, out_text, err_text, IsSound}
-use Rattle.poet_cli.specs.Steps.{Denied, Got, IsShut}
+use Rattle.poet_cli.specs.Origins.{WasPrinted}
+use Rattle.poet_cli.proofs.FoundFacts.{Denied, Found}
 use Rattle.poet_cli.specs.Clauses.{Outlets, Scene, ToldText, ToldFault, ToldLine, Told, IsReadLine, SaysWhy, Answers}
 
 printed_few : (p : Printed) → printed_status p ≤ 1
@@ -68,9 +69,9 @@ module _ (answer : Files → Ending) (may : Refusal → Type 0) (told now : Opti
       }
 
   -- a refusal that the files tell
-  plain_answers : (r : Refusal) → IfTold told (λ x. answer x ≡ Err r) → 2 ≤ refusal_status r → refusal_status r ≤ 7 → refusal_status r ≢ 3 → refusal_status r ≢ 4 →
+  plain_answers : (r : Refusal) → may r → IfTold told (λ x. answer x ≡ Err r) → 2 ≤ refusal_status r → refusal_status r ≤ 7 → refusal_status r ≢ 3 → refusal_status r ≢ 4 →
       (refusal_status r ≡ 2 → r ≡ Usage) → ToldLine r s t status → Says
-  plain_answers r got low high no_read no_write is_usage wrote =
+  plain_answers r m got low high no_read no_write is_usage wrote =
       let same : IfTold told Same = if_told_map told (λ x. answer x ≡ Err r) Same (λ x e. rw e (wrote.status_is, stayed_appended s.out t.out wrote.silent)) got in
       record {
         answer_is = λ a b c. same;
@@ -83,7 +84,7 @@ module _ (answer : Files → Ending) (may : Refusal → Type 0) (told now : Opti
         says_why = λ l. record {
           line = line_of r;
           one_line = wrote.line_is;
-          refusal_is = λ n. record { refusal = r; status_is = wrote.status_is; line_is = refl };
+          refusal_is = λ n. record { refusal = r; may_be = m; status_is = wrote.status_is; line_is = refl };
           usage_line = λ h. ap line_of (is_usage (sym wrote.status_is ∙ h));
           read_line = λ h. absurd (no_read (sym wrote.status_is ∙ h));
           write_line = λ h. absurd (no_write (sym wrote.status_is ∙ h));
@@ -106,7 +107,7 @@ module _ (answer : Files → Ending) (may : Refusal → Type 0) (told now : Opti
         says_why = λ l. record {
           line = line_of (Read which);
           one_line = wrote.line_is;
-          refusal_is = λ n. record { refusal = Read which; status_is = wrote.status_is; line_is = refl };
+          refusal_is = λ n. record { refusal = Read which; may_be = m; status_is = wrote.status_is; line_is = refl };
           usage_line = λ h. absurd (omega (arith, wrote.status_is, h));
           read_line = λ h. record {
             source = which;
@@ -124,8 +125,8 @@ module _ (answer : Files → Ending) (may : Refusal → Type 0) (told now : Opti
         ];
       }
 
-  memory_answers : ToldLine Memory s t status → Says
-  memory_answers wrote =
+  memory_answers : may Memory → ToldLine Memory s t status → Says
+  memory_answers m wrote =
       record {
         answer_is = λ a b c. absurd (c wrote.status_is);
         read_cause = λ h. absurd (omega (arith, wrote.status_is, h));
@@ -137,7 +138,7 @@ module _ (answer : Files → Ending) (may : Refusal → Type 0) (told now : Opti
         says_why = λ l. record {
           line = line_of Memory;
           one_line = wrote.line_is;
-          refusal_is = λ n. record { refusal = Memory; status_is = wrote.status_is; line_is = refl };
+          refusal_is = λ n. record { refusal = Memory; may_be = m; status_is = wrote.status_is; line_is = refl };
           usage_line = λ h. absurd (omega (arith, wrote.status_is, h));
           read_line = λ h. absurd (omega (arith, wrote.status_is, h));
           write_line = λ h. absurd (omega (arith, wrote.status_is, h));
@@ -148,21 +149,21 @@ module _ (answer : Files → Ending) (may : Refusal → Type 0) (told now : Opti
       }
 
   refused_answers : (r : Refusal) → may r → Denied answer told f g r → ToldLine r s t status → Says
-  refused_answers Usage m d wrote = plain_answers Usage d (omega arith) (omega arith) (λ e. absurd (omega (arith, e))) (λ e. absurd (omega (arith, e))) (λ e. refl) wrote
+  refused_answers Usage m d wrote = plain_answers Usage m d (omega arith) (omega arith) (λ e. absurd (omega (arith, e))) (λ e. absurd (omega (arith, e))) (λ e. refl) wrote
   refused_answers (Read which) m d wrote = read_answers which m d wrote
-  refused_answers (Sheet e) m d wrote = plain_answers (Sheet e) d (omega arith) (omega arith) (λ e. absurd (omega (arith, e))) (λ e. absurd (omega (arith, e))) (λ e. absurd (omega (arith, e))) wrote
-  refused_answers (Text which line) m d wrote = plain_answers (Text which line) d (omega arith) (omega arith) (λ e. absurd (omega (arith, e))) (λ e. absurd (omega (arith, e))) (λ e. absurd (omega (arith, e))) wrote
-  refused_answers (Limit which) m d wrote = plain_answers (Limit which) d (omega arith) (omega arith) (λ e. absurd (omega (arith, e))) (λ e. absurd (omega (arith, e))) (λ e. absurd (omega (arith, e))) wrote
-  refused_answers (Points name) m d wrote = plain_answers (Points name) d (omega arith) (omega arith) (λ e. absurd (omega (arith, e))) (λ e. absurd (omega (arith, e))) (λ e. absurd (omega (arith, e))) wrote
-  refused_answers Jobs m d wrote = plain_answers Jobs d (omega arith) (omega arith) (λ e. absurd (omega (arith, e))) (λ e. absurd (omega (arith, e))) (λ e. absurd (omega (arith, e))) wrote
-  refused_answers Segments m d wrote = plain_answers Segments d (omega arith) (omega arith) (λ e. absurd (omega (arith, e))) (λ e. absurd (omega (arith, e))) (λ e. absurd (omega (arith, e))) wrote
-  refused_answers Memory m d wrote = memory_answers wrote
+  refused_answers (Sheet e) m d wrote = plain_answers (Sheet e) m d (omega arith) (omega arith) (λ e. absurd (omega (arith, e))) (λ e. absurd (omega (arith, e))) (λ e. absurd (omega (arith, e))) wrote
+  refused_answers (Text which line) m d wrote = plain_answers (Text which line) m d (omega arith) (omega arith) (λ e. absurd (omega (arith, e))) (λ e. absurd (omega (arith, e))) (λ e. absurd (omega (arith, e))) wrote
+  refused_answers (Limit which) m d wrote = plain_answers (Limit which) m d (omega arith) (omega arith) (λ e. absurd (omega (arith, e))) (λ e. absurd (omega (arith, e))) (λ e. absurd (omega (arith, e))) wrote
+  refused_answers (Points name) m d wrote = plain_answers (Points name) m d (omega arith) (omega arith) (λ e. absurd (omega (arith, e))) (λ e. absurd (omega (arith, e))) (λ e. absurd (omega (arith, e))) wrote
+  refused_answers Jobs m d wrote = plain_answers Jobs m d (omega arith) (omega arith) (λ e. absurd (omega (arith, e))) (λ e. absurd (omega (arith, e))) (λ e. absurd (omega (arith, e))) wrote
+  refused_answers Segments m d wrote = plain_answers Segments m d (omega arith) (omega arith) (λ e. absurd (omega (arith, e))) (λ e. absurd (omega (arith, e))) (λ e. absurd (omega (arith, e))) wrote
+  refused_answers Memory m d wrote = memory_answers m wrote
 
   -- the clause `answers`
-  pub answers_from : (ending : Ending) → Got answer may told f g ending → Told ending s t status → Says
-  answers_from (Ok p) got (inl wrote) = text_answers p got wrote
-  answers_from (Ok p) got (inr wrote) = fault_answers p got wrote
-  answers_from (Err r) got wrote = refused_answers r got.0 got.1 wrote
+  pub answers_from : (ending : Ending) → Found answer told f g ending → IfErr ending may → Told ending s t status → Says
+  answers_from (Ok p) found can (inl wrote) = text_answers p found wrote
+  answers_from (Ok p) found can (inr wrote) = fault_answers p found wrote
+  answers_from (Err r) found can wrote = refused_answers r can found wrote
 
 usage_is : (r : Refusal) → refusal_status r ≡ 2 → r ≡ Usage
 usage_is Usage e = refl
@@ -203,32 +204,31 @@ refusal_low Segments = omega arith
 refusal_low Memory = omega arith
 
 -- the clause `headline`
-pub holds_told : (P Q : Type 0) (ending : Ending) (s t : Outlets) (status : ℕ) → Told ending s t status → IfOk ending (IsSound P Q) → status ≡ 0 → P
-holds_told P Q (Ok (Done text)) s t status wrote sound e = sound
+pub holds_told : (P Q : List ℕ → Type 0) (ending : Ending) (s t : Outlets) (status : ℕ) → Told ending s t status → IfOk ending (IsSound P Q) → status ≡ 0 → WasPrinted s.out t.out P
+holds_told P Q (Ok (Done text)) s t status (inl wrote) sound e = record { text = text; written = wrote.text_is; holds = sound }
+holds_told P Q (Ok (Done text)) s t status (inr wrote) sound e = absurd (omega (arith, wrote.status_is, e))
 holds_told P Q (Ok (JudgedNo text)) s t status (inl wrote) sound e = absurd (omega (arith, wrote.status_is, e))
 holds_told P Q (Ok (JudgedNo text)) s t status (inr wrote) sound e = absurd (omega (arith, wrote.status_is, e))
 holds_told P Q (Err r) s t status wrote sound e = absurd (omega (arith, refusal_low r, wrote.status_is, e))
 
 -- the clause `objection`
-pub fails_told : (P Q : Type 0) (ending : Ending) (s t : Outlets) (status : ℕ) → Told ending s t status → IfOk ending (IsSound P Q) → status ≡ 1 → Q
-fails_told P Q (Ok (JudgedNo text)) s t status wrote sound e = sound
+pub fails_told : (P Q : List ℕ → Type 0) (ending : Ending) (s t : Outlets) (status : ℕ) → Told ending s t status → IfOk ending (IsSound P Q) → status ≡ 1 → WasPrinted s.out t.out Q
+fails_told P Q (Ok (JudgedNo text)) s t status (inl wrote) sound e = record { text = text; written = wrote.text_is; holds = sound }
+fails_told P Q (Ok (JudgedNo text)) s t status (inr wrote) sound e = absurd (omega (arith, wrote.status_is, e))
 fails_told P Q (Ok (Done text)) s t status (inl wrote) sound e = absurd (omega (arith, wrote.status_is, e))
 fails_told P Q (Ok (Done text)) s t status (inr wrote) sound e = absurd (omega (arith, wrote.status_is, e))
 fails_told P Q (Err r) s t status wrote sound e = absurd (omega (arith, refusal_low r, wrote.status_is, e))
 
-shut_at : (is_open : Bool) (r : Refusal) → IsShut is_open r → refusal_status r ≡ 3 → is_open ≡ false
-shut_at is_open (Read which) shut e = shut
-shut_at is_open Usage shut e = absurd (omega (arith, e))
-shut_at is_open (Sheet refusal) shut e = absurd (omega (arith, e))
-shut_at is_open (Text which line) shut e = absurd (omega (arith, e))
-shut_at is_open (Limit which) shut e = absurd (omega (arith, e))
-shut_at is_open (Points name) shut e = absurd (omega (arith, e))
-shut_at is_open Jobs shut e = absurd (omega (arith, e))
-shut_at is_open Segments shut e = absurd (omega (arith, e))
-shut_at is_open Memory shut e = absurd (omega (arith, e))
-
--- for the clause `shelf`
-pub shut_told : (is_open : Bool) (ending : Ending) (s t : Outlets) (status : ℕ) → Told ending s t status → IfErr ending (IsShut is_open) → status ≡ 3 → is_open ≡ false
-shut_told is_open (Ok p) s t status (inl wrote) shut e = absurd (omega (arith, printed_few p, wrote.status_is, e))
-shut_told is_open (Ok p) s t status (inr wrote) shut e = absurd (omega (arith, wrote.status_is, e))
-shut_told is_open (Err r) s t status wrote shut e = shut_at is_open r shut (sym wrote.status_is ∙ e)
+-- a file that could not be read is why the status is 3
+pub read_told : (ending : Ending) (s t : Outlets) (status : ℕ) → Told ending s t status → status ≡ 3 → (which : Source) × (ending ≡ Err (Read which))
+read_told (Ok p) s t status (inl wrote) e = absurd (omega (arith, printed_few p, wrote.status_is, e))
+read_told (Ok p) s t status (inr wrote) e = absurd (omega (arith, wrote.status_is, e))
+read_told (Err (Read which)) s t status wrote e = (which, refl)
+read_told (Err Usage) s t status wrote e = absurd (omega (arith, wrote.status_is, e))
+read_told (Err (Sheet refusal)) s t status wrote e = absurd (omega (arith, wrote.status_is, e))
+read_told (Err (Text which line)) s t status wrote e = absurd (omega (arith, wrote.status_is, e))
+read_told (Err (Limit which)) s t status wrote e = absurd (omega (arith, wrote.status_is, e))
+read_told (Err (Points name)) s t status wrote e = absurd (omega (arith, wrote.status_is, e))
+read_told (Err Jobs) s t status wrote e = absurd (omega (arith, wrote.status_is, e))
+read_told (Err Segments) s t status wrote e = absurd (omega (arith, wrote.status_is, e))
+read_told (Err Memory) s t status wrote e = absurd (omega (arith, wrote.status_is, e))

@@ -1,3 +1,8 @@
+pub mod StepFacts
+pub mod FoundFacts
+pub mod MayFacts
+pub mod OpeningFacts
+pub mod DoesFacts
 pub mod EndingFacts
 mod SeenFacts
 mod LengthFacts

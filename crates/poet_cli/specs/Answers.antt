@@ -1,9 +1,10 @@
 -- The answers of `check` and `analyse`.
-use Rattle.std.specs.Prelude.{◌≡◌, ℕ, Bool, List, length, Option, Some, None, Result, Ok, Err, IsOk, nat_le, if◌then◌else◌}
-use Rattle.poet_io.specs.Shelves.{Files, IfTold}
+use Rattle.std.specs.Prelude.{◌≡◌, ℕ, Bool, List, length, Option, Some, None, Result, Ok, Err, nat_le, if◌then◌else◌}
+use Rattle.poet_io.specs.Shelves.{Files}
 use Rattle.task_sheet.specs.SheetParts.{SheetParts}
 use Rattle.task_sheet.specs.Sheets.{task_at}
 use Rattle.task_sheet.specs.declared.refusal.SheetRefusal.{SheetRefusal}
+use Rattle.task_sheet.specs.declared.refusal.SheetRefusal.TheVariants as sheets
 use Rattle.sheet_text.specs.SheetRows.{sheet_of_text}
 use Rattle.policy.specs.Policies.{meaning_of}
 use Rattle.preemption.specs.Kinds.{per_task_meaning}
@@ -22,9 +23,8 @@ use Rattle.poet_cli.specs.declared.refusal.Refusal.{Refusal}
 use Rattle.poet_cli.specs.declared.refusal.Refusal.TheVariants.{Usage, Read, Sheet, Text, Limit, Points, Jobs, Segments, Memory}
 use Rattle.poet_cli.specs.declared.printed.Printed.TheVariants as printed
 use Rattle.poet_cli.specs.Refusals.{limit_of}
-use Rattle.poet_cli.specs.Endings.{Ending}
+use Rattle.poet_cli.specs.Endings.{Ending, next}
 use Rattle.poet_cli.specs.Printing.{accepted_text, refused_text, no_bound_text}
-use Rattle.poet_cli.specs.Steps.{next}
 
 -- the bytes of a file, within the limit of its kind
 abbrev pub within : Source → Option (List ℕ) → Result (List ℕ) Refusal
@@ -34,13 +34,19 @@ within which (Some bytes) = if nat_le (length bytes) (limit_of which) then Ok by
 abbrev pub file_in : Source → List ℕ → Files → Result (List ℕ) Refusal
 file_in which name files = within which (files name)
 
+-- a sheet, or why it is none; want of memory is of no sheet
 abbrev pub sheet_read : Result SheetParts SheetRefusal → Result SheetParts Refusal
 sheet_read (Ok sheet) = Ok sheet
+sheet_read (Err sheets.Memory) = Err Memory
 sheet_read (Err refusal) = Err (Sheet refusal)
+
+-- the sheet that these bytes are
+abbrev pub sheet_by : List ℕ → Result SheetParts Refusal
+sheet_by bytes = sheet_read (sheet_of_text bytes)
 
 -- the sheet of a file
 abbrev pub sheet_in : List ℕ → Files → Result SheetParts Refusal
-sheet_in name files = next (file_in source.Sheet name files) (λ bytes. sheet_read (sheet_of_text bytes))
+sheet_in name files = next (file_in source.Sheet name files) sheet_by
 
 -- the verdict over the bytes of a certificate, by the sheet's own policy, preemption and supply
 abbrev pub sheet_verdict : SheetParts → Bool → List ℕ → Verdict
@@ -52,12 +58,9 @@ judged_by sheet (verdict.Accepted bounds) = Ok (printed.Done (accepted_text shee
 judged_by sheet (verdict.Text line) = Err (Text source.Certificate line)
 judged_by sheet (verdict.Refused failed) = Ok (printed.JudgedNo (refused_text sheet failed))
 
--- the answer from the opening of the certificate on
-abbrev pub rest_of : SheetParts → Bool → List ℕ → Files → Ending
-rest_of sheet deadlines name files = next (file_in source.Certificate name files) (λ bytes. judged_by sheet (sheet_verdict sheet deadlines bytes))
-
-abbrev pub check_answer : List ℕ → List ℕ → Bool → Files → Ending
-check_answer sheet certificate deadlines files = next (sheet_in sheet files) (λ parts. rest_of parts deadlines certificate files)
+-- the answer of `check` over a sheet and the bytes of a certificate
+abbrev pub check_by : Bool → SheetParts → List ℕ → Ending
+check_by deadlines sheet bytes = judged_by sheet (sheet_verdict sheet deadlines bytes)
 
 -- the best certificate up to the horizon, by the sheet's own policy, preemption and supply
 abbrev pub best_for : SheetParts → ℕ → Result Cert AnalyseRefusal
@@ -70,19 +73,6 @@ analysed_by sheet (Err (solver.NoBound i part)) = Ok (printed.JudgedNo (no_bound
 analysed_by sheet (Err (solver.Points i)) = Err (Points (task_at sheet i).name)
 analysed_by sheet (Err solver.Memory) = Err Memory
 
-abbrev pub analyse_answer : List ℕ → ℕ → Files → Ending
-analyse_answer sheet horizon files = next (sheet_in sheet files) (λ parts. analysed_by parts (best_for parts horizon))
-
--- which refusals may come whatever the shelf tells, of a command that reads a sheet and then another file
-abbrev pub MayFailAfterSheet : Source → List ℕ → Option Files → Refusal → Type 0
-MayFailAfterSheet other sheet told Usage = ⊥
-MayFailAfterSheet other sheet told (Read source.Sheet) = Unit {0}
-MayFailAfterSheet other sheet told (Read source.Certificate) = (other ≡ source.Certificate) × IfTold told (λ files. IsOk (sheet_in sheet files))
-MayFailAfterSheet other sheet told (Read source.Run) = (other ≡ source.Run) × IfTold told (λ files. IsOk (sheet_in sheet files))
-MayFailAfterSheet other sheet told (Sheet refusal) = Unit {0}
-MayFailAfterSheet other sheet told (Text which line) = Unit {0}
-MayFailAfterSheet other sheet told (Limit which) = Unit {0}
-MayFailAfterSheet other sheet told (Points name) = Unit {0}
-MayFailAfterSheet other sheet told Jobs = Unit {0}
-MayFailAfterSheet other sheet told Segments = Unit {0}
-MayFailAfterSheet other sheet told Memory = Unit {0}
+-- the answer of `analyse` over a sheet
+abbrev pub analyse_by : ℕ → SheetParts → Ending
+analyse_by horizon sheet = analysed_by sheet (best_for sheet horizon)

@@ -8,13 +8,16 @@ use Rattle.poet_cli.specs.declared.refusal.Refusal.{Refusal}
 use Rattle.poet_cli.specs.declared.refusal.Refusal.TheVariants.{Usage, Read, Memory}
 use Rattle.poet_cli.specs.Refusals.{refusal_status, line_of, write_failed}
 use Rattle.poet_cli.specs.declared.printed.Printed.{Printed}
+use Rattle.poet_cli.specs.Words.{Asked}
+use Rattle.poet_cli.specs.Readings.{ShelfAt}
+use Rattle.poet_cli.specs.Program.{Does}
 use Rattle.poet_cli.specs.Endings.{Ending, printed_status, printed_text, ending_status, out_text, err_text}
 
 -- the two sinks at a moment
 pub record Outlets : Type 0 where
-  pub out : Option (List ℕ)
+  pub out : List ℕ
   pub out_faults : ℕ
-  pub err : Option (List ℕ)
+  pub err : List ℕ
   pub err_faults : ℕ
 
 -- the outside at a moment
@@ -43,7 +46,7 @@ pub record ToldLine (refusal : Refusal) (before after : Outlets) (status : ℕ) 
   pub line_is : WroteLine before.err after.err before.err_faults after.err_faults (line_of refusal)
 
 -- how the writing of a text ended: with its status and nothing on err, or with status 4 and its line
-abbrev pub Finished : {E : Type 0} → Result (Unit {0}) E → ℕ → Option (List ℕ) → Option (List ℕ) → ℕ → ℕ → ℕ → Type 0
+abbrev pub Finished : {E : Type 0} → Result (Unit {0}) E → ℕ → List ℕ → List ℕ → ℕ → ℕ → ℕ → Type 0
 Finished (Ok done) status before after faults_before faults_now answer = (answer ≡ status) × Stayed before after
 Finished (Err fault) status before after faults_before faults_now answer = (answer ≡ 4) × WroteLine before after faults_before faults_now write_failed
 
@@ -59,9 +62,10 @@ pub record IsReadLine (answer : Files → Ending) (may : Refusal → Type 0) (be
   pub may_fail : may (Read source)
   pub no_fault : ¬ Rose before.faults after.faults → IfTold before.files (λ files. line ≡ err_text (answer files))
 
--- the line of some refusal with this status
-pub record IsRefusalLine (status : ℕ) (line : List ℕ) : Type 0 where
+-- the line of a refusal with this status that the command can give
+pub record IsRefusalLine (may : Refusal → Type 0) (status : ℕ) (line : List ℕ) : Type 0 where
   pub refusal : Refusal
+  pub may_be : may refusal
   pub status_is : status ≡ refusal_status refusal
   pub line_is : line ≡ line_of refusal
 
@@ -69,7 +73,7 @@ pub record IsRefusalLine (status : ℕ) (line : List ℕ) : Type 0 where
 pub record SaysWhy (answer : Files → Ending) (may : Refusal → Type 0) (before after : Scene) (status : ℕ) : Type 0 where
   pub line : List ℕ
   pub one_line : WroteLine before.sinks.err after.sinks.err before.sinks.err_faults after.sinks.err_faults line
-  pub refusal_is : status ≢ 4 → IsRefusalLine status line
+  pub refusal_is : status ≢ 4 → IsRefusalLine may status line
   pub usage_line : status ≡ 2 → line ≡ line_of Usage
   pub read_line : status ≡ 3 → IsReadLine answer may before after line
   pub write_line : status ≡ 4 → line ≡ write_failed
@@ -102,3 +106,9 @@ pub record Answers (answer : Files → Ending) (may : Refusal → Type 0) (befor
   -- with no fault counted the answer is the defined one, or memory
   pub complete : ¬ Rose before.faults after.faults → ¬ Rose before.sinks.out_faults after.sinks.out_faults → IfTold before.files (λ files.
       (status ≡ 8) ⊎ ((status ≡ ending_status (answer files)) × Appended before.sinks.out after.sinks.out (out_text (answer files))))
+
+-- how the command ended, by which calls of its shelf, and how that was told
+pub record Did (asked : Option Asked) (shelf_before shelf_now : ShelfAt) (before after : Outlets) (status : ℕ) : Type 0 where
+  pub ending : Ending
+  pub does : Does asked shelf_before shelf_now ending
+  pub told : Told ending before after status

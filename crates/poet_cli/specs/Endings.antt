@@ -22,6 +22,11 @@ abbrev pub ending_status : Ending → ℕ
 ending_status (Ok print) = printed_status print
 ending_status (Err refusal) = refusal_status refusal
 
+-- what comes next, unless it was refused: the order of these is the order of refusals
+abbrev pub next : {A B : Type 0} → Result A Refusal → (A → Result B Refusal) → Result B Refusal
+next (Ok a) f = f a
+next (Err e) f = Err e
+
 -- the text for out
 abbrev pub out_text : Ending → List ℕ
 out_text (Ok print) = printed_text print
@@ -32,7 +37,7 @@ abbrev pub err_text : Ending → List ℕ
 err_text (Ok print) = []
 err_text (Err refusal) = line_of refusal
 
--- what is printed is true: this where it is done, and that where it judges no
-abbrev pub IsSound : Type 0 → Type 0 → Printed → Type 0
-IsSound holds fails (Done text) = holds
-IsSound holds fails (JudgedNo text) = fails
+-- what is printed is true: this of a text that is done, and that of one that judges no
+abbrev pub IsSound : (List ℕ → Type 0) → (List ℕ → Type 0) → Printed → Type 0
+IsSound Holds Fails (Done text) = Holds text
+IsSound Holds Fails (JudgedNo text) = Fails text

@@ -1,10 +1,7 @@
 -- The answer of an exercise.
 use Rattle.std.specs.Prelude.{◌≡◌, ℕ, List, ◌++◌, codes, Ok}
-use Rattle.poet_io.specs.Shelves.{Files}
 use Rattle.exercise.specs.declared.outcome.Exercise.{Exercise}
 use Rattle.exercise.specs.Exercises.{exercise_of}
-use Rattle.poet_cli.specs.declared.refusal.Refusal.{Refusal}
-use Rattle.poet_cli.specs.declared.refusal.Refusal.TheVariants.{Memory}
 use Rattle.poet_cli.specs.declared.printed.Printed.TheVariants.{Done}
 use Rattle.poet_cli.specs.Endings.{Ending}
 use Rattle.poet_cli.specs.Printing.{counted}
@@ -15,9 +12,6 @@ exercise_line seed tasks e =
     counted (codes "exercise seed ") seed ++ (counted (codes " tasks ") tasks ++ (counted (codes " points ") e.points ++ (counted (codes " greatest ") e.greatest
     ++ (counted (codes " jobs ") e.jobs ++ (counted (codes " done ") e.done ++ (counted (codes " worst ") e.worst ++ codes "\n"))))))
 
-abbrev pub exercise_answer : ℕ → ℕ → Files → Ending
-exercise_answer seed tasks files = Ok (Done (exercise_line seed tasks (exercise_of seed tasks)))
-
--- an exercise is refused for want of memory alone
-abbrev pub IsExerciseRefusal : Refusal → Type 0
-IsExerciseRefusal refusal = refusal ≡ Memory
+-- the answer of `exercise`
+abbrev pub exercise_answer : ℕ → ℕ → Ending
+exercise_answer seed tasks = Ok (Done (exercise_line seed tasks (exercise_of seed tasks)))

@@ -2,7 +2,6 @@
 use Rattle.std.specs.Prelude.{ℕ, false, List, Option, Some, None, Result, Ok, Err}
 use Rattle.poet_io.specs.declared.text_refusal.TextRefusal.{TextRefusal}
 use Rattle.poet_io.specs.declared.text_refusal.TextRefusal.TheVariants as texts
-use Rattle.poet_io.specs.Shelves.{Files}
 use Rattle.task_sheet.specs.SheetParts.{SheetParts}
 use Rattle.policy.specs.Policies.{meaning_of}
 use Rattle.preemption.specs.Kinds.{per_task_meaning}
@@ -20,19 +19,13 @@ use Rattle.poet_cli.specs.declared.refusal.Refusal.{Refusal}
 use Rattle.poet_cli.specs.declared.refusal.Refusal.TheVariants.{Text, Memory}
 use Rattle.poet_cli.specs.declared.printed.Printed.{Printed}
 use Rattle.poet_cli.specs.declared.printed.Printed.TheVariants.{Done, JudgedNo}
-use Rattle.poet_cli.specs.Endings.{Ending}
+use Rattle.poet_cli.specs.Endings.{Ending, next}
 use Rattle.poet_cli.specs.Printing.{refused_text}
-use Rattle.poet_cli.specs.Steps.{next}
-use Rattle.poet_cli.specs.Answers.{file_in, sheet_in}
 
 abbrev pub cert_read : Result Cert TextRefusal → Result Cert Refusal
 cert_read (Ok cert) = Ok cert
 cert_read (Err (texts.Line line)) = Err (Text source.Certificate line)
 cert_read (Err texts.Memory) = Err Memory
-
--- the certificate of a file
-abbrev pub cert_in : List ℕ → Files → Result Cert Refusal
-cert_in name files = next (file_in source.Certificate name files) (λ bytes. cert_read (cert_of_text bytes))
 
 -- the bytes of a report
 abbrev pub report_of : Form → SheetParts → Cert → List ℕ
@@ -48,9 +41,6 @@ abbrev pub reported_by : Form → SheetParts → Cert → Option Failed → Prin
 reported_by form sheet cert None = Done (report_of form sheet cert)
 reported_by form sheet cert (Some failed) = JudgedNo (refused_text sheet failed)
 
--- the answer from the opening of the certificate on
-abbrev pub report_rest : SheetParts → Form → List ℕ → Files → Ending
-report_rest sheet form name files = next (cert_in name files) (λ cert. Ok (reported_by form sheet cert (failed_for sheet cert)))
-
-abbrev pub report_answer : List ℕ → List ℕ → Form → Files → Ending
-report_answer sheet certificate form files = next (sheet_in sheet files) (λ parts. report_rest parts form certificate files)
+-- the answer of `report` over a sheet and the bytes of a certificate
+abbrev pub report_by : Form → SheetParts → List ℕ → Ending
+report_by form sheet bytes = next (cert_read (cert_of_text bytes)) (λ cert. Ok (reported_by form sheet cert (failed_for sheet cert)))

@@ -2,7 +2,6 @@
 use Rattle.std.specs.Prelude.{◌≡◌, ℕ, List, Result, Ok, Err}
 use Rattle.poet_io.specs.declared.text_refusal.TextRefusal.{TextRefusal}
 use Rattle.poet_io.specs.declared.text_refusal.TextRefusal.TheVariants as texts
-use Rattle.poet_io.specs.Shelves.{Files}
 use Rattle.task_sheet.specs.SheetParts.{SheetParts}
 use Rattle.policy.specs.Policies.{meaning_of}
 use Rattle.preemption.specs.Kinds.{per_task_meaning}
@@ -21,10 +20,8 @@ use Rattle.poet_cli.specs.declared.refusal.Source.TheVariants as source
 use Rattle.poet_cli.specs.declared.refusal.Refusal.{Refusal}
 use Rattle.poet_cli.specs.declared.refusal.Refusal.TheVariants.{Usage, Read, Sheet, Text, Limit, Points, Jobs, Segments, Memory}
 use Rattle.poet_cli.specs.declared.printed.Printed.TheVariants as printed
-use Rattle.poet_cli.specs.Endings.{Ending}
+use Rattle.poet_cli.specs.Endings.{Ending, next}
 use Rattle.poet_cli.specs.RunPrinting.{audit_print}
-use Rattle.poet_cli.specs.Steps.{next}
-use Rattle.poet_cli.specs.Answers.{file_in, sheet_in}
 
 -- what a sheet is simulated for: its own policy, preemption and supply
 abbrev pub world_for : SheetParts → Mode → World
@@ -36,25 +33,19 @@ simulated_by (Err simulator.Jobs) = Err Jobs
 simulated_by (Err simulator.Segments) = Err Segments
 simulated_by (Err simulator.Memory) = Err Memory
 
-abbrev pub simulate_answer : List ℕ → Mode → ℕ → Files → Ending
-simulate_answer sheet mode ticks files = next (sheet_in sheet files) (λ parts. simulated_by (simulation_of (world_for parts mode) ticks))
+-- the answer of `simulate` over a sheet
+abbrev pub simulate_by : Mode → ℕ → SheetParts → Ending
+simulate_by mode ticks sheet = simulated_by (simulation_of (world_for sheet mode) ticks)
 
 abbrev pub run_read : Result Run TextRefusal → Result Run Refusal
 run_read (Ok run) = Ok run
 run_read (Err (texts.Line line)) = Err (Text source.Run line)
 run_read (Err texts.Memory) = Err Memory
 
--- the run of a file
-abbrev pub run_in : List ℕ → Files → Result Run Refusal
-run_in name files = next (file_in source.Run name files) (λ bytes. run_read (run_of_text bytes))
-
 -- the verdict on a run, by the sheet's own policy, preemption and supply
 abbrev pub audit_for : SheetParts → Run → AuditVerdict
 audit_for sheet run = verdict_of (meaning_of sheet.policy) per_task_meaning (sbf_of sheet.supply) sheet run
 
--- the answer from the opening of the run on
-abbrev pub audit_rest : SheetParts → List ℕ → Files → Ending
-audit_rest sheet name files = next (run_in name files) (λ run. Ok (audit_print sheet (audit_for sheet run)))
-
-abbrev pub audit_answer : List ℕ → List ℕ → Files → Ending
-audit_answer sheet run files = next (sheet_in sheet files) (λ parts. audit_rest parts run files)
+-- the answer of `audit` over a sheet and the bytes of a run
+abbrev pub audit_by : SheetParts → List ℕ → Ending
+audit_by sheet bytes = next (run_read (run_of_text bytes)) (λ run. Ok (audit_print sheet (audit_for sheet run)))

@@ -1,32 +1,13 @@
--- What the steps of a command give, and why they are refused.
-use Rattle.std.specs.Prelude.{◌≡◌, ◌⊎◌, ℕ, Bool, false, Option, Result, Ok, Err}
-use Rattle.poet_io.specs.Faults.{Rose}
-use Rattle.poet_io.specs.Shelves.{Files, IfTold, IsTold}
+-- The steps of a command, and what each gives.
+use Rattle.std.specs.Prelude.{◌≡◌, ℕ, List, Result, Ok, Err}
+use Rattle.task_sheet.specs.SheetParts.{SheetParts}
 use Rattle.poet_cli.specs.declared.refusal.Source.{Source}
+use Rattle.poet_cli.specs.declared.refusal.Source.TheVariants as source
 use Rattle.poet_cli.specs.declared.refusal.Refusal.{Refusal}
-use Rattle.poet_cli.specs.declared.refusal.Refusal.TheVariants.{Usage, Read, Sheet, Text, Limit, Points, Jobs, Segments, Memory}
-
--- what comes next, unless it was refused: the order of these is the order of refusals
-abbrev pub next : {A B : Type 0} → Result A Refusal → (A → Result B Refusal) → Result B Refusal
-next (Ok a) f = f a
-next (Err e) f = Err e
-
--- why a step was refused, where its answer is this function of the files
-abbrev pub Denied : {A : Type 0} → (Files → Result A Refusal) → Option Files → ℕ → ℕ → Refusal → Type 0
-Denied answer told before now Usage = IfTold told (λ files. answer files ≡ Err Usage)
-Denied answer told before now (Read which) = Rose before now ⊎ IsTold told (λ files. answer files ≡ Err (Read which))
-Denied answer told before now (Sheet refusal) = IfTold told (λ files. answer files ≡ Err (Sheet refusal))
-Denied answer told before now (Text which line) = IfTold told (λ files. answer files ≡ Err (Text which line))
-Denied answer told before now (Limit which) = IfTold told (λ files. answer files ≡ Err (Limit which))
-Denied answer told before now (Points name) = IfTold told (λ files. answer files ≡ Err (Points name))
-Denied answer told before now Jobs = IfTold told (λ files. answer files ≡ Err Jobs)
-Denied answer told before now Segments = IfTold told (λ files. answer files ≡ Err Segments)
-Denied answer told before now Memory = Unit {0}
-
--- what a step gives, where its answer is this function of the files and these refusals may come
-abbrev pub Got : {A : Type 0} → (Files → Result A Refusal) → (Refusal → Type 0) → Option Files → ℕ → ℕ → Result A Refusal → Type 0
-Got answer may told before now (Ok a) = IfTold told (λ files. answer files ≡ Ok a)
-Got answer may told before now (Err e) = may e × Denied answer told before now e
+use Rattle.poet_cli.specs.declared.refusal.Refusal.TheVariants.{Usage, Read, Memory}
+use Rattle.poet_cli.specs.Endings.{Ending}
+use Rattle.poet_cli.specs.Readings.{ShelfAt, IsFileReading}
+use Rattle.poet_cli.specs.Answers.{sheet_by}
 
 -- what a step that reads no file gives, where its answer is this: the answer, or want of memory
 abbrev pub Gives : {A : Type 0} → Result A Refusal → Result A Refusal → Type 0
@@ -36,26 +17,40 @@ Gives answer (Err (Read which)) = ⊥
 Gives answer (Err Memory) = Unit {0}
 Gives answer (Err refusal) = answer ≡ Err refusal
 
--- after a file that could not be read nothing is open
-abbrev pub IsShut : Bool → Refusal → Type 0
-IsShut is_open Usage = Unit {0}
-IsShut is_open (Read which) = is_open ≡ false
-IsShut is_open (Sheet refusal) = Unit {0}
-IsShut is_open (Text which line) = Unit {0}
-IsShut is_open (Limit which) = Unit {0}
-IsShut is_open (Points name) = Unit {0}
-IsShut is_open Jobs = Unit {0}
-IsShut is_open Segments = Unit {0}
-IsShut is_open Memory = Unit {0}
+-- what comes after a step: this, unless it was refused
+abbrev pub After : {A B : Type 0} → (A → Result B Refusal → Type 0) → Result A Refusal → Result B Refusal → Type 0
+After Ends (Ok a) result = Ends a result
+After Ends (Err refusal) result = result ≡ Err refusal
 
--- the refusals of reading one file
-abbrev pub IsAt : Source → Refusal → Type 0
-IsAt here Usage = ⊥
-IsAt here (Read which) = which ≡ here
-IsAt here (Sheet refusal) = Unit {0}
-IsAt here (Text which line) = Unit {0}
-IsAt here (Limit which) = Unit {0}
-IsAt here (Points name) = Unit {0}
-IsAt here Jobs = Unit {0}
-IsAt here Segments = Unit {0}
-IsAt here Memory = Unit {0}
+-- one reading of a file, and this of its bytes
+pub record Reads {A : Type 0} (which : Source) (name : List ℕ) (Ends : List ℕ → Result A Refusal → Type 0) (before now : ShelfAt) (result : Result A Refusal) : Type 0 where
+  pub gave : Result (List ℕ) Refusal
+  pub reading : IsFileReading which name before now gave
+  pub after : After Ends gave result
+
+-- one reading of a file, whose bytes are this sheet
+abbrev pub ReadsSheet : List ℕ → ShelfAt → ShelfAt → Result SheetParts Refusal → Type 0
+ReadsSheet name before now result = Reads source.Sheet name (λ bytes. Gives (sheet_by bytes)) before now result
+
+-- no call of the shelf
+pub record NoFile (Ends : Ending → Type 0) (before now : ShelfAt) (ending : Ending) : Type 0 where
+  pub none : now ≡ before
+  pub does : Ends ending
+
+-- one reading of a sheet, and this of it; no other call of the shelf
+pub record OneFile (name : List ℕ) (Ends : SheetParts → Ending → Type 0) (before now : ShelfAt) (ending : Ending) : Type 0 where
+  pub gave : Result SheetParts Refusal
+  pub sheet : ReadsSheet name before now gave
+  pub after : After Ends gave ending
+
+-- one reading of another file, where the sheet was read, and this of its bytes
+abbrev pub ReadsNext : Source → List ℕ → (SheetParts → List ℕ → Ending → Type 0) → Result SheetParts Refusal → ShelfAt → ShelfAt → Ending → Type 0
+ReadsNext which name Ends (Ok sheet) middle now ending = Reads which name (Ends sheet) middle now ending
+ReadsNext which name Ends (Err refusal) middle now ending = (now ≡ middle) × (ending ≡ Err refusal)
+
+-- one reading of a sheet, then one of another file, and this of both; no other call of the shelf
+pub record TwoFiles (sheet_name : List ℕ) (which : Source) (name : List ℕ) (Ends : SheetParts → List ℕ → Ending → Type 0) (before now : ShelfAt) (ending : Ending) : Type 0 where
+  pub gave : Result SheetParts Refusal
+  pub middle : ShelfAt
+  pub sheet : ReadsSheet sheet_name before middle gave
+  pub next : ReadsNext which name Ends gave middle now ending

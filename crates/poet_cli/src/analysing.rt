@@ -1,21 +1,20 @@
 //! How `analyse` ends.
-ghost use Rattle.std.specs.Prelude.{◌≡◌, ◌≤◌, true, Ok, IfOk, IfErr};
-ghost use Rattle.poet_io.specs.Shelves.{IfTold};
+ghost use Rattle.std.specs.Prelude.{◌≡◌, ◌≤◌, IfOk, IfErr};
 ghost use Rattle.policy.specs.PolicyMeaning.{PolicyMeaning};
 ghost use Rattle.policy.specs.Policies.{meaning_of};
 ghost use Rattle.preemption.specs.Kinds.{per_task_meaning};
 ghost use Rattle.supply.specs.Promises.{sbf_of};
 ghost use Rattle.task_sheet.specs.Sheets.{task_at};
 ghost use Rattle.solver.specs.Outcome.{IsBestAnswer};
-ghost use Rattle.poet_cli.specs.Endings.{IsSound};
-ghost use Rattle.poet_cli.specs.Steps.{Gives, Got, IsAt, IsShut};
-ghost use Rattle.poet_cli.specs.Answers.{best_for, analysed_by, analyse_answer};
-ghost use Rattle.poet_cli.specs.Analyses.{IsBestBy, IsNoneBy, BestHolds, NoneHolds, AnalysisHolds, NothingMeets};
+ghost use Rattle.poet_cli.specs.Analyses.{IsBestBy, IsNoneBy};
+ghost use Rattle.poet_cli.specs.Readings.{shelf_at};
+ghost use Rattle.poet_cli.specs.Steps.{OneFile};
+ghost use Rattle.poet_cli.specs.Program.{AnalyseDoes};
 
 use crate::printed::Printed;
 use crate::printing::{name_at, no_bound};
 use crate::reading::sheet_at;
-use crate::refusal::{Refusal, Source};
+use crate::refusal::Refusal;
 use cert_check::accepted_is_sound;
 use certificate::{Cert, write_cert};
 use lists::{Items, Text};
@@ -65,8 +64,7 @@ fn name_of(alloc: Global, sheet: &Sheet, task: u32) -> Result<Text, AllocError>
 /// What the analysis of a sheet comes to.
 fn analysis(alloc: Global, sheet: &Sheet, horizon: u64) -> Result<Printed, Refusal>
     requires { horizon ≤ 1000000000 }
-    ensures exact { Gives (analysed_by sheet.now (best_for sheet.now horizon)) result }
-    ensures sound { IfOk result (IsSound (BestHolds sheet.now horizon) (NoneHolds sheet.now horizon)) }
+    ensures { AnalyseDoes horizon sheet.now result }
 {
     match best(alloc, sheet, horizon) {
         Ok(cert) => match write_cert(alloc, &cert) {
@@ -86,6 +84,7 @@ fn analysis(alloc: Global, sheet: &Sheet, horizon: u64) -> Result<Printed, Refus
 }
 
 /// How `analyse` ends.
+#[tactic(auto, using(crate::proofs::StepFacts::one_no_sheet, crate::proofs::StepFacts::one_read))]
 pub fn analyse_ending<H: Shelf>(
     alloc: Global,
     sheet: &str,
@@ -93,13 +92,9 @@ pub fn analyse_ending<H: Shelf>(
     shelf: &mut H,
 ) -> Result<Printed, Refusal>
     requires { horizon ≤ 1000000000 }
-    ensures files { H.files shelf.new ≡ H.files shelf.old }
-    ensures later { H.faults shelf.old ≤ H.faults shelf.new }
-    ensures closed { IfErr result (IsShut (H.is_open shelf.new)) }
-    ensures got { Got (analyse_answer sheet.now horizon) (IsAt Source.Sheet)
-        (H.files shelf.old) (H.faults shelf.old) (H.faults shelf.new) result }
-    ensures sound { IfOk result (IsSound (IfTold (H.files shelf.old) (AnalysisHolds sheet.now horizon))
-        (IfTold (H.files shelf.old) (NothingMeets sheet.now horizon))) }
+    ensures { OneFile sheet.now (AnalyseDoes horizon)
+        (shelf_at H.files H.faults H.is_open H.log shelf.old)
+        (shelf_at H.files H.faults H.is_open H.log shelf.new) result }
 {
     let sheet = sheet_at(alloc, shelf, sheet)?;
     analysis(alloc, &sheet, horizon)

@@ -1,18 +1,18 @@
 //! How `audit` ends.
-ghost use Rattle.std.specs.Prelude.{◌≡◌, ◌≤◌, Ok, IfOk, IfErr};
-ghost use Rattle.poet_io.specs.Shelves.{IfTold};
+ghost use Rattle.std.specs.Prelude.{◌≡◌, IfOk};
 ghost use Rattle.policy.specs.Policies.{meaning_of};
 ghost use Rattle.preemption.specs.Kinds.{per_task_meaning};
 ghost use Rattle.supply.specs.Promises.{sbf_of};
 ghost use Rattle.run_text.specs.Text.{IsWithinLimits};
 ghost use Rattle.audit.specs.Verdicts.{TellsCompliance};
-ghost use Rattle.poet_cli.specs.Steps.{Got, IsAt, IsShut};
 ghost use Rattle.poet_cli.specs.Endings.{IsSound};
 ghost use Rattle.poet_cli.specs.RunPrinting.{audit_print, IsPrintableVerdict};
-ghost use Rattle.poet_cli.specs.Answers.{MayFailAfterSheet};
-ghost use Rattle.poet_cli.specs.RunAnswers.{audit_for, audit_rest, audit_answer};
-ghost use Rattle.poet_cli.specs.Headline.{RunComplies, RunHolds, AuditHolds};
-ghost use Rattle.poet_cli.specs.Objections.{RunBreaks, RunFails, AuditFails};
+ghost use Rattle.poet_cli.specs.RunAnswers.{audit_for};
+ghost use Rattle.poet_cli.specs.Headline.{RunComplies};
+ghost use Rattle.poet_cli.specs.Objections.{RunBreaks};
+ghost use Rattle.poet_cli.specs.Readings.{shelf_at};
+ghost use Rattle.poet_cli.specs.Steps.{TwoFiles};
+ghost use Rattle.poet_cli.specs.Program.{AuditDoes};
 
 use crate::printed::Printed;
 use crate::reading::{read_file, sheet_at};
@@ -41,32 +41,20 @@ pub fn verdict_on(alloc: Global, sheet: &Sheet, run: &Run) -> Result<AuditVerdic
 }
 
 /// What is printed of a run.
-fn audited(alloc: Global, sheet: &Sheet, run: &Run) -> Result<Printed, AllocError>
+fn print_on(alloc: Global, sheet: &Sheet, run: &Run) -> Result<Printed, AllocError>
     requires { IsWithinLimits run.now }
     ensures exact { IfOk result (λ print. print ≡ audit_print sheet.now (audit_for sheet.now run.now)) }
-    ensures sound { IfOk result (IsSound (RunComplies sheet.now run.now) (RunBreaks sheet.now run.now)) }
+    ensures sound { IfOk result (IsSound (λ _. RunComplies sheet.now run.now) (λ _. RunBreaks sheet.now run.now)) }
 {
     let verdict = verdict_on(alloc, sheet, run)?;
     print_of(alloc, sheet, &verdict)
 }
 
-/// How `audit` ends from the opening of the run on.
-fn run_ending<H: Shelf>(
-    alloc: Global,
-    sheet: &Sheet,
-    name: &str,
-    shelf: &mut H,
-) -> Result<Printed, Refusal>
-    ensures files { H.files shelf.new ≡ H.files shelf.old }
-    ensures later { H.faults shelf.old ≤ H.faults shelf.new }
-    ensures closed { IfErr result (IsShut (H.is_open shelf.new)) }
-    ensures got { Got (audit_rest sheet.now name.now) (IsAt Source.Run)
-        (H.files shelf.old) (H.faults shelf.old) (H.faults shelf.new) result }
-    ensures sound { IfOk result (IsSound (IfTold (H.files shelf.old) (RunHolds sheet.now name.now))
-        (IfTold (H.files shelf.old) (RunFails sheet.now name.now))) }
+/// How `audit` ends, over a sheet and the bytes of a run.
+fn audited(alloc: Global, sheet: &Sheet, bytes: &[u8]) -> Result<Printed, Refusal>
+    ensures { AuditDoes sheet.now bytes.now result }
 {
-    let bytes = read_file(alloc, shelf, name, Source::Run)?;
-    let run = match read_run(alloc, &bytes) {
+    let run = match read_run(alloc, bytes) {
         Ok(run) => run,
         Err(TextRefusal::Line(line)) => {
             return Err(Refusal::Text {
@@ -76,27 +64,25 @@ fn run_ending<H: Shelf>(
         }
         Err(TextRefusal::Memory) => return Err(Refusal::Memory),
     };
-    match audited(alloc, sheet, &run) {
+    match print_on(alloc, sheet, &run) {
         Ok(print) => Ok(print),
         Err(_) => Err(Refusal::Memory),
     }
 }
 
 /// How `audit` ends.
+#[tactic(auto, using(crate::proofs::StepFacts::two_no_sheet, crate::proofs::StepFacts::two_not_read, crate::proofs::StepFacts::two_read))]
 pub fn audit_ending<H: Shelf>(
     alloc: Global,
     sheet: &str,
     run: &str,
     shelf: &mut H,
 ) -> Result<Printed, Refusal>
-    ensures files { H.files shelf.new ≡ H.files shelf.old }
-    ensures later { H.faults shelf.old ≤ H.faults shelf.new }
-    ensures closed { IfErr result (IsShut (H.is_open shelf.new)) }
-    ensures got { Got (audit_answer sheet.now run.now) (MayFailAfterSheet Source.Run sheet.now (H.files shelf.old))
-        (H.files shelf.old) (H.faults shelf.old) (H.faults shelf.new) result }
-    ensures sound { IfOk result (IsSound (IfTold (H.files shelf.old) (AuditHolds sheet.now run.now))
-        (IfTold (H.files shelf.old) (AuditFails sheet.now run.now))) }
+    ensures { TwoFiles sheet.now Source.Run run.now AuditDoes
+        (shelf_at H.files H.faults H.is_open H.log shelf.old)
+        (shelf_at H.files H.faults H.is_open H.log shelf.new) result }
 {
     let sheet = sheet_at(alloc, shelf, sheet)?;
-    run_ending(alloc, &sheet, run, shelf)
+    let bytes = read_file(alloc, shelf, run, Source::Run)?;
+    audited(alloc, &sheet, &bytes)
 }

@@ -1,9 +1,7 @@
 //! How `exercise` ends.
-ghost use Rattle.std.specs.Prelude.{◌≡◌, ◌≤◌, IfOk, IfErr};
-ghost use Rattle.exercise.specs.Exercises.{exercise_of, ExerciseHolds};
-ghost use Rattle.poet_cli.specs.declared.printed.Printed.TheVariants as printed;
-ghost use Rattle.poet_cli.specs.Endings.{IsSound};
-ghost use Rattle.poet_cli.specs.ExerciseAnswers.{exercise_line, IsExerciseRefusal};
+ghost use Rattle.std.specs.Prelude.{◌≡◌, ◌≤◌, IfOk};
+ghost use Rattle.poet_cli.specs.ExerciseAnswers.{exercise_line};
+ghost use Rattle.poet_cli.specs.Program.{ExerciseDoes};
 
 use crate::printed::Printed;
 use crate::printing::push_counted;
@@ -33,9 +31,7 @@ fn line_of(alloc: Global, seed: u64, tasks: u32, one: &Exercise) -> Result<Items
 pub fn exercise_ending(alloc: Global, seed: u64, tasks: u32) -> Result<Printed, Refusal>
     requires some { 1 ≤ tasks }
     requires few { tasks ≤ 64 }
-    ensures exact { IfOk result (λ print. print ≡ printed.Done (exercise_line seed tasks (exercise_of seed tasks))) }
-    ensures refused { IfErr result IsExerciseRefusal }
-    ensures sound { IfOk result (IsSound (ExerciseHolds seed tasks) ⊥) }
+    ensures { ExerciseDoes seed tasks result }
 {
     let one = match exercise(alloc, seed, tasks) {
         Ok(one) => one,

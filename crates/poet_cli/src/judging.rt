@@ -1,15 +1,13 @@
 //! How `check` ends.
-ghost use Rattle.std.specs.Prelude.{◌≡◌, ◌≤◌, Ok, IfOk, IfErr};
-ghost use Rattle.poet_io.specs.Shelves.{IfTold};
+ghost use Rattle.std.specs.Prelude.{◌≡◌, IfOk};
 ghost use Rattle.cert_check.specs.Verdicts.{IsVerdict, IsBoundedBy};
 ghost use Rattle.policy.specs.Policies.{meaning_of};
 ghost use Rattle.preemption.specs.Kinds.{per_task_meaning};
 ghost use Rattle.supply.specs.Promises.{sbf_of};
-ghost use Rattle.poet_cli.specs.Endings.{IsSound};
-ghost use Rattle.poet_cli.specs.Steps.{Got, IsAt, IsShut};
-ghost use Rattle.poet_cli.specs.Answers.{sheet_verdict, rest_of, check_answer, MayFailAfterSheet};
-ghost use Rattle.poet_cli.specs.Headline.{BoundsHold, HeadlineHolds};
-ghost use Rattle.poet_cli.specs.Objections.{CertificateFails, CheckFails};
+ghost use Rattle.poet_cli.specs.Answers.{sheet_verdict};
+ghost use Rattle.poet_cli.specs.Readings.{shelf_at};
+ghost use Rattle.poet_cli.specs.Steps.{TwoFiles};
+ghost use Rattle.poet_cli.specs.Program.{CheckDoes};
 
 use crate::printed::Printed;
 use crate::printing::{accepted, refused};
@@ -43,24 +41,16 @@ fn verdict(
     }
 }
 
-/// How `check` ends from the opening of the certificate on.
-fn certificate_ending<H: Shelf>(
+/// How `check` ends, over a sheet and the bytes of a certificate.
+fn judged(
     alloc: Global,
     sheet: &Sheet,
-    name: &str,
     deadlines: bool,
-    shelf: &mut H,
+    bytes: &[u8],
 ) -> Result<Printed, Refusal>
-    ensures files { H.files shelf.new ≡ H.files shelf.old }
-    ensures later { H.faults shelf.old ≤ H.faults shelf.new }
-    ensures closed { IfErr result (IsShut (H.is_open shelf.new)) }
-    ensures got { Got (rest_of sheet.now deadlines name.now) (IsAt Source.Certificate)
-        (H.files shelf.old) (H.faults shelf.old) (H.faults shelf.new) result }
-    ensures sound { IfOk result (IsSound (IfTold (H.files shelf.old) (BoundsHold sheet.now deadlines name.now))
-        (IfTold (H.files shelf.old) (CertificateFails sheet.now deadlines name.now))) }
+    ensures { CheckDoes deadlines sheet.now bytes.now result }
 {
-    let bytes = read_file(alloc, shelf, name, Source::Certificate)?;
-    match verdict(alloc, sheet, deadlines, &bytes) {
+    match verdict(alloc, sheet, deadlines, bytes) {
         Ok(Verdict::Accepted(bounds)) => match accepted(alloc, sheet, bounds.as_slice()) {
             Ok(text) => Ok(Printed::Done(text)),
             Err(_) => Err(Refusal::Memory),
@@ -78,6 +68,7 @@ fn certificate_ending<H: Shelf>(
 }
 
 /// How `check` ends.
+#[tactic(auto, using(crate::proofs::StepFacts::two_no_sheet, crate::proofs::StepFacts::two_not_read, crate::proofs::StepFacts::two_read))]
 pub fn check_ending<H: Shelf>(
     alloc: Global,
     sheet: &str,
@@ -85,16 +76,11 @@ pub fn check_ending<H: Shelf>(
     deadlines: bool,
     shelf: &mut H,
 ) -> Result<Printed, Refusal>
-    ensures files { H.files shelf.new ≡ H.files shelf.old }
-    ensures later { H.faults shelf.old ≤ H.faults shelf.new }
-    ensures closed { IfErr result (IsShut (H.is_open shelf.new)) }
-    ensures got { Got (check_answer sheet.now certificate.now deadlines)
-        (MayFailAfterSheet Source.Certificate sheet.now (H.files shelf.old))
-        (H.files shelf.old) (H.faults shelf.old) (H.faults shelf.new) result }
-    ensures sound { IfOk result (IsSound
-        (IfTold (H.files shelf.old) (HeadlineHolds sheet.now certificate.now deadlines))
-        (IfTold (H.files shelf.old) (CheckFails sheet.now certificate.now deadlines))) }
+    ensures { TwoFiles sheet.now Source.Certificate certificate.now (CheckDoes deadlines)
+        (shelf_at H.files H.faults H.is_open H.log shelf.old)
+        (shelf_at H.files H.faults H.is_open H.log shelf.new) result }
 {
     let sheet = sheet_at(alloc, shelf, sheet)?;
-    certificate_ending(alloc, &sheet, certificate, deadlines, shelf)
+    let bytes = read_file(alloc, shelf, certificate, Source::Certificate)?;
+    judged(alloc, &sheet, deadlines, &bytes)
 }

@@ -1,8 +1,7 @@
 //! The files of a command.
-ghost use Rattle.std.specs.Prelude.{◌≡◌, ◌≤◌, ◌-◌, ◌<◌, ◌^◌, ℕ, Ok, IfOk, IfErr};
-ghost use Rattle.poet_io.specs.Shelves.{IfTold};
-ghost use Rattle.poet_cli.specs.Steps.{Denied, Got, IsAt, IsShut};
-ghost use Rattle.poet_cli.specs.Answers.{file_in, sheet_in};
+ghost use Rattle.std.specs.Prelude.{◌-◌, ◌<◌, ◌^◌, Ok, Err, IfOk, IfErr};
+ghost use Rattle.poet_cli.specs.Readings.{shelf_at, IsFileReading};
+ghost use Rattle.poet_cli.specs.Steps.{ReadsSheet};
 
 use crate::refusal::{Refusal, Source};
 use poet_io::{ReadRefusal, Shelf, read_whole};
@@ -17,11 +16,12 @@ pub fn read_file<H: Shelf>(
     name: &str,
     source: Source,
 ) -> Result<Vec<u8>, Refusal>
-    ensures files { H.files shelf.new ≡ H.files shelf.old }
-    ensures later { H.faults shelf.old ≤ H.faults shelf.new }
-    ensures closed { IfErr result (IsShut (H.is_open shelf.new)) }
-    ensures whole { IfOk result (λ bytes. IfTold (H.files shelf.old) (λ files. file_in source name.now files ≡ Ok bytes.items)) }
-    ensures denied { IfErr result (λ e. IsAt source e × Denied (file_in source name.now) (H.files shelf.old) (H.faults shelf.old) (H.faults shelf.new) e) }
+    ensures read { IfOk result (λ bytes. IsFileReading source name.now
+        (shelf_at H.files H.faults H.is_open H.log shelf.old)
+        (shelf_at H.files H.faults H.is_open H.log shelf.new) (Ok bytes.items)) }
+    ensures stopped { IfErr result (λ refusal. IsFileReading source name.now
+        (shelf_at H.files H.faults H.is_open H.log shelf.old)
+        (shelf_at H.files H.faults H.is_open H.log shelf.new) (Err refusal)) }
 {
     match read_whole(alloc, shelf, name, source.limit()) {
         Ok(bytes) => Ok(bytes),
@@ -33,10 +33,9 @@ pub fn read_file<H: Shelf>(
 
 /// The sheet of a file.
 pub fn sheet_at<H: Shelf>(alloc: Global, shelf: &mut H, name: &str) -> Result<Sheet, Refusal>
-    ensures files { H.files shelf.new ≡ H.files shelf.old }
-    ensures later { H.faults shelf.old ≤ H.faults shelf.new }
-    ensures closed { IfErr result (IsShut (H.is_open shelf.new)) }
-    ensures got { Got (sheet_in name.now) (IsAt Source.Sheet) (H.files shelf.old) (H.faults shelf.old) (H.faults shelf.new) result }
+    ensures { ReadsSheet name.now
+        (shelf_at H.files H.faults H.is_open H.log shelf.old)
+        (shelf_at H.files H.faults H.is_open H.log shelf.new) result }
 {
     let bytes = read_file(alloc, shelf, name, Source::Sheet)?;
     match read_sheet(alloc, &bytes) {

@@ -1,17 +1,16 @@
 //! How `report` ends.
-ghost use Rattle.std.specs.Prelude.{◌≡◌, ◌≤◌, false, Ok, None, IfOk, IfErr};
-ghost use Rattle.poet_io.specs.Shelves.{IfTold};
+ghost use Rattle.std.specs.Prelude.{◌≡◌, false, None, IfOk};
 ghost use Rattle.certificate.specs.Text.{IsWithinGrammar};
 ghost use Rattle.policy.specs.Policies.{meaning_of};
 ghost use Rattle.preemption.specs.Kinds.{per_task_meaning};
 ghost use Rattle.supply.specs.Promises.{sbf_of};
 ghost use Rattle.cert_check.specs.Verdicts.{bounds_of, AreSound};
 ghost use Rattle.poet_cli.specs.Endings.{IsSound};
-ghost use Rattle.poet_cli.specs.Steps.{Got, IsAt, IsShut};
-ghost use Rattle.poet_cli.specs.Answers.{MayFailAfterSheet};
-ghost use Rattle.poet_cli.specs.ReportAnswers.{failed_for, reported_by, report_rest, report_answer};
-ghost use Rattle.poet_cli.specs.Headline.{BoundsHold, HeadlineHolds};
-ghost use Rattle.poet_cli.specs.Objections.{Fails, CertificateFails, CheckFails};
+ghost use Rattle.poet_cli.specs.ReportAnswers.{failed_for, reported_by};
+ghost use Rattle.poet_cli.specs.Objections.{Fails};
+ghost use Rattle.poet_cli.specs.Readings.{shelf_at};
+ghost use Rattle.poet_cli.specs.Steps.{TwoFiles};
+ghost use Rattle.poet_cli.specs.Program.{ReportDoes};
 
 use crate::grammar::Form;
 use crate::printed::Printed;
@@ -44,11 +43,11 @@ fn first_failed(sheet: &Sheet, cert: &Cert) -> Option<Failed>
 }
 
 /// The report on a certificate, or the first condition that fails.
-fn reported(alloc: Global, sheet: &Sheet, cert: &Cert, form: Form) -> Result<Printed, AllocError>
+fn report_on(alloc: Global, sheet: &Sheet, cert: &Cert, form: Form) -> Result<Printed, AllocError>
     requires { IsWithinGrammar cert.now }
     ensures exact { IfOk result (λ one. one ≡ reported_by form sheet.now cert.now (failed_for sheet.now cert.now)) }
     ensures sound { IfOk result (IsSound
-        (AreSound (meaning_of sheet.now.policy) per_task_meaning (sbf_of sheet.now.supply) sheet.now false (bounds_of cert.now))
+        (λ _. AreSound (meaning_of sheet.now.policy) per_task_meaning (sbf_of sheet.now.supply) sheet.now false (bounds_of cert.now))
         (Fails sheet.now false cert.now)) }
 {
     if let Some(failed) = first_failed(sheet, cert) {
@@ -61,24 +60,16 @@ fn reported(alloc: Global, sheet: &Sheet, cert: &Cert, form: Form) -> Result<Pri
     Ok(Printed::Done(Items::new(text)))
 }
 
-/// How `report` ends from the opening of the certificate on.
-fn certificate_ending<H: Shelf>(
+/// How `report` ends, over a sheet and the bytes of a certificate.
+fn reported(
     alloc: Global,
     sheet: &Sheet,
-    name: &str,
     form: Form,
-    shelf: &mut H,
+    bytes: &[u8],
 ) -> Result<Printed, Refusal>
-    ensures files { H.files shelf.new ≡ H.files shelf.old }
-    ensures later { H.faults shelf.old ≤ H.faults shelf.new }
-    ensures closed { IfErr result (IsShut (H.is_open shelf.new)) }
-    ensures got { Got (report_rest sheet.now form name.now) (IsAt Source.Certificate)
-        (H.files shelf.old) (H.faults shelf.old) (H.faults shelf.new) result }
-    ensures sound { IfOk result (IsSound (IfTold (H.files shelf.old) (BoundsHold sheet.now false name.now))
-        (IfTold (H.files shelf.old) (CertificateFails sheet.now false name.now))) }
+    ensures { ReportDoes form sheet.now bytes.now result }
 {
-    let bytes = read_file(alloc, shelf, name, Source::Certificate)?;
-    let cert = match read_cert(alloc, &bytes) {
+    let cert = match read_cert(alloc, bytes) {
         Ok(cert) => cert,
         Err(TextRefusal::Line(line)) => {
             return Err(Refusal::Text {
@@ -88,13 +79,14 @@ fn certificate_ending<H: Shelf>(
         }
         Err(TextRefusal::Memory) => return Err(Refusal::Memory),
     };
-    match reported(alloc, sheet, &cert, form) {
+    match report_on(alloc, sheet, &cert, form) {
         Ok(one) => Ok(one),
         Err(_) => Err(Refusal::Memory),
     }
 }
 
 /// How `report` ends.
+#[tactic(auto, using(crate::proofs::StepFacts::two_no_sheet, crate::proofs::StepFacts::two_not_read, crate::proofs::StepFacts::two_read))]
 pub fn report_ending<H: Shelf>(
     alloc: Global,
     sheet: &str,
@@ -102,16 +94,11 @@ pub fn report_ending<H: Shelf>(
     form: Form,
     shelf: &mut H,
 ) -> Result<Printed, Refusal>
-    ensures files { H.files shelf.new ≡ H.files shelf.old }
-    ensures later { H.faults shelf.old ≤ H.faults shelf.new }
-    ensures closed { IfErr result (IsShut (H.is_open shelf.new)) }
-    ensures got { Got (report_answer sheet.now certificate.now form)
-        (MayFailAfterSheet Source.Certificate sheet.now (H.files shelf.old))
-        (H.files shelf.old) (H.faults shelf.old) (H.faults shelf.new) result }
-    ensures sound { IfOk result (IsSound
-        (IfTold (H.files shelf.old) (HeadlineHolds sheet.now certificate.now false))
-        (IfTold (H.files shelf.old) (CheckFails sheet.now certificate.now false))) }
+    ensures { TwoFiles sheet.now Source.Certificate certificate.now (ReportDoes form)
+        (shelf_at H.files H.faults H.is_open H.log shelf.old)
+        (shelf_at H.files H.faults H.is_open H.log shelf.new) result }
 {
     let sheet = sheet_at(alloc, shelf, sheet)?;
-    certificate_ending(alloc, &sheet, certificate, form, shelf)
+    let bytes = read_file(alloc, shelf, certificate, Source::Certificate)?;
+    reported(alloc, &sheet, form, &bytes)
 }

@@ -1,6 +1,5 @@
 //! How `simulate` ends.
-ghost use Rattle.std.specs.Prelude.{◌≡◌, ◌≤◌, Ok, IfOk, IfErr};
-ghost use Rattle.poet_io.specs.Shelves.{IfTold};
+ghost use Rattle.std.specs.Prelude.{◌≡◌, ◌≤◌, IfOk};
 ghost use Rattle.policy.specs.Policies.{meaning_of};
 ghost use Rattle.preemption.specs.Kinds.{per_task_meaning};
 ghost use Rattle.supply.specs.Promises.{sbf_of};
@@ -8,15 +7,15 @@ ghost use Rattle.run_text.specs.Text.{IsWithinLimits};
 ghost use Rattle.schedule_laws.specs.Compliance.{IsCompliant};
 ghost use Rattle.simulated_run.specs.declared.mode.Mode.TheVariants.{Dense};
 ghost use Rattle.simulated_run.specs.Laws.{IsDense};
-ghost use Rattle.simulator.specs.Simulations.{IsSimulation, simulation_of};
-ghost use Rattle.poet_cli.specs.Endings.{IsSound};
-ghost use Rattle.poet_cli.specs.Steps.{Gives, Got, IsAt, IsShut};
-ghost use Rattle.poet_cli.specs.RunAnswers.{world_for, simulated_by, simulate_answer};
-ghost use Rattle.poet_cli.specs.Headline.{SimulationComplies, SimulationHolds};
+ghost use Rattle.simulator.specs.Simulations.{IsSimulation};
+ghost use Rattle.poet_cli.specs.RunAnswers.{world_for};
+ghost use Rattle.poet_cli.specs.Readings.{shelf_at};
+ghost use Rattle.poet_cli.specs.Steps.{OneFile};
+ghost use Rattle.poet_cli.specs.Program.{SimulateDoes};
 
 use crate::printed::Printed;
 use crate::reading::sheet_at;
-use crate::refusal::{Refusal, Source};
+use crate::refusal::Refusal;
 use lists::Items;
 use poet_io::Shelf;
 use policy::{Edf, Fifo, Fp};
@@ -46,8 +45,7 @@ pub fn simulation(alloc: Global, sheet: &Sheet, mode: Mode, ticks: u64) -> Resul
 /// What the simulation of a sheet comes to.
 fn simulated(alloc: Global, sheet: &Sheet, mode: Mode, ticks: u64) -> Result<Printed, Refusal>
     requires { ticks ≤ 100000 }
-    ensures exact { Gives (simulated_by (simulation_of (world_for sheet.now mode) ticks)) result }
-    ensures sound { IfOk result (IsSound (SimulationComplies sheet.now mode ticks) ⊥) }
+    ensures { SimulateDoes mode ticks sheet.now result }
 {
     match simulation(alloc, sheet, mode, ticks) {
         Ok(run) => match write_run(alloc, &run) {
@@ -61,6 +59,7 @@ fn simulated(alloc: Global, sheet: &Sheet, mode: Mode, ticks: u64) -> Result<Pri
 }
 
 /// How `simulate` ends.
+#[tactic(auto, using(crate::proofs::StepFacts::one_no_sheet, crate::proofs::StepFacts::one_read))]
 pub fn simulate_ending<H: Shelf>(
     alloc: Global,
     sheet: &str,
@@ -69,12 +68,9 @@ pub fn simulate_ending<H: Shelf>(
     shelf: &mut H,
 ) -> Result<Printed, Refusal>
     requires { ticks ≤ 100000 }
-    ensures files { H.files shelf.new ≡ H.files shelf.old }
-    ensures later { H.faults shelf.old ≤ H.faults shelf.new }
-    ensures closed { IfErr result (IsShut (H.is_open shelf.new)) }
-    ensures got { Got (simulate_answer sheet.now mode ticks) (IsAt Source.Sheet)
-        (H.files shelf.old) (H.faults shelf.old) (H.faults shelf.new) result }
-    ensures sound { IfOk result (IsSound (IfTold (H.files shelf.old) (SimulationHolds sheet.now mode ticks)) ⊥) }
+    ensures { OneFile sheet.now (SimulateDoes mode ticks)
+        (shelf_at H.files H.faults H.is_open H.log shelf.old)
+        (shelf_at H.files H.faults H.is_open H.log shelf.new) result }
 {
     let sheet = sheet_at(alloc, shelf, sheet)?;
     simulated(alloc, &sheet, mode, ticks)

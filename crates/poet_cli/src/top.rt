@@ -1,11 +1,11 @@
 //! The top call.
-ghost use Rattle.std.specs.Prelude.{◌≡◌, ◌↔◌, ◌≤◌, Some, None, Err, IfOk, IfErr, map, string_bytes};
-ghost use Rattle.poet_io.specs.Shelves.{IfTold};
+ghost use Rattle.std.specs.Prelude.{◌≡◌, ◌↔◌, Some, None, map, string_bytes};
 ghost use Rattle.poet_cli.specs.Words.{command_in, asked_by, IsInRange};
-ghost use Rattle.poet_cli.specs.Endings.{IsSound};
-ghost use Rattle.poet_cli.specs.Steps.{Got, IsShut};
-ghost use Rattle.poet_cli.specs.Program.{asked_answer, MayAskedFail, answer_of, MayFail};
-ghost use Rattle.poet_cli.specs.Clauses.{Answers, LeavesShelf};
+ghost use Rattle.poet_cli.specs.Openings.{files_of, OpensFront};
+ghost use Rattle.poet_cli.specs.Origins.{WasPrinted};
+ghost use Rattle.poet_cli.specs.Readings.{shelf_at};
+ghost use Rattle.poet_cli.specs.Program.{Does, answer_of, MayFail};
+ghost use Rattle.poet_cli.specs.Clauses.{Answers, Did, LeavesShelf};
 ghost use Rattle.poet_cli.specs.Objections.{Objection};
 ghost use Rattle.poet_cli.specs.Headline.{Headline};
 
@@ -29,15 +29,9 @@ fn command_ending<H: Shelf>(
     shelf: &mut H,
 ) -> Result<Printed, Refusal>
     requires { IsInRange command }
-    ensures files { H.files shelf.new ≡ H.files shelf.old }
-    ensures later { H.faults shelf.old ≤ H.faults shelf.new }
-    ensures closed { IfErr result (IsShut (H.is_open shelf.new)) }
-    ensures got { Got (asked_answer (Some (asked_by command.entry)))
-        (MayAskedFail (Some (asked_by command.entry)) (H.files shelf.old))
-        (H.files shelf.old) (H.faults shelf.old) (H.faults shelf.new) result }
-    ensures sound { IfOk result (IsSound
-        (IfTold (H.files shelf.old) (Headline (Some (asked_by command.entry))))
-        (IfTold (H.files shelf.old) (Objection (Some (asked_by command.entry))))) }
+    ensures { Does (Some (asked_by command.entry))
+        (shelf_at H.files H.faults H.is_open H.log shelf.old)
+        (shelf_at H.files H.faults H.is_open H.log shelf.new) result }
 {
     match command {
         Command::Check {
@@ -61,16 +55,9 @@ fn command_ending<H: Shelf>(
 
 /// How the program ends.
 fn ending_of<H: Shelf>(alloc: Global, words: &[String], shelf: &mut H) -> Result<Printed, Refusal>
-    ensures files { H.files shelf.new ≡ H.files shelf.old }
-    ensures later { H.faults shelf.old ≤ H.faults shelf.new }
-    ensures closed { IfErr result (IsShut (H.is_open shelf.new)) }
-    ensures got { Got (answer_of (map string_bytes words.now))
-        (MayFail (map string_bytes words.now) (H.files shelf.old))
-        (H.files shelf.old) (H.faults shelf.old) (H.faults shelf.new) result }
-    ensures usage { (result ≡ Err Refusal.Usage) ↔ (command_in (map string_bytes words.now) ≡ None) }
-    ensures sound { IfOk result (IsSound
-        (IfTold (H.files shelf.old) (Headline (command_in (map string_bytes words.now))))
-        (IfTold (H.files shelf.old) (Objection (command_in (map string_bytes words.now))))) }
+    ensures { Does (command_in (map string_bytes words.now))
+        (shelf_at H.files H.faults H.is_open H.log shelf.old)
+        (shelf_at H.files H.faults H.is_open H.log shelf.new) result }
 {
     match command_of(words) {
         Some(command) => command_ending(alloc, command, shelf),
@@ -92,9 +79,17 @@ pub fn poet_run<H: Shelf, O: Sink, E: Sink>(
     ensures answers { Answers (answer_of (map string_bytes words.now.items)) (MayFail (map string_bytes words.now.items) (H.files shelf.old))
         (record { files = H.files shelf.old; faults = H.faults shelf.old; sinks = record { out = O.written out.old; out_faults = O.faults out.old; err = E.written err.old; err_faults = E.faults err.old } })
         (record { files = H.files shelf.new; faults = H.faults shelf.new; sinks = record { out = O.written out.new; out_faults = O.faults out.new; err = E.written err.new; err_faults = E.faults err.new } }) result }
+    ensures did { Did (command_in (map string_bytes words.now.items))
+        (shelf_at H.files H.faults H.is_open H.log shelf.old)
+        (shelf_at H.files H.faults H.is_open H.log shelf.new)
+        (record { out = O.written out.old; out_faults = O.faults out.old; err = E.written err.old; err_faults = E.faults err.old })
+        (record { out = O.written out.new; out_faults = O.faults out.new; err = E.written err.new; err_faults = E.faults err.new }) result }
+    ensures opened { OpensFront (files_of (command_in (map string_bytes words.now.items))) (H.log shelf.old) (H.log shelf.new) }
     ensures usage { result ≡ 2 ↔ (command_in (map string_bytes words.now.items) ≡ None) }
-    ensures headline { result ≡ 0 → IfTold (H.files shelf.old) (Headline (command_in (map string_bytes words.now.items))) }
-    ensures objection { result ≡ 1 → IfTold (H.files shelf.old) (Objection (command_in (map string_bytes words.now.items))) }
+    ensures headline { result ≡ 0 → WasPrinted (O.written out.old) (O.written out.new)
+        (Headline (command_in (map string_bytes words.now.items)) (H.files shelf.old) (H.log shelf.old) (H.log shelf.new)) }
+    ensures objection { result ≡ 1 → WasPrinted (O.written out.old) (O.written out.new)
+        (Objection (command_in (map string_bytes words.now.items)) (H.files shelf.old) (H.log shelf.old) (H.log shelf.new)) }
     ensures shelf { LeavesShelf (H.files shelf.old) (H.files shelf.new) (H.faults shelf.old) (H.faults shelf.new) (H.is_open shelf.new) result }
 {
     let ending = ending_of(alloc, words, shelf);

@@ -26,13 +26,12 @@ pub fn words_of(alloc: Global, line: &str) -> Result<Vec<String>, AllocError> {
     Ok(words)
 }
 
-/// A shelf with the files `s` and `c`, whose calls with the numbers in `fails` are faults.
-pub fn shelf_of(
+/// The files `s` and `c`.
+pub fn files_of(
     alloc: Global,
     sheet: &[u8],
     other: &[u8],
-    fails: Vec<u64>,
-) -> Result<MemShelf, AllocError> {
+) -> Result<Vec<(String, Vec<u8>)>, AllocError> {
     let mut files = Vec::new(alloc);
     files.push((
         String::from_str(alloc, "s")?,
@@ -42,7 +41,17 @@ pub fn shelf_of(
         String::from_str(alloc, "c")?,
         Vec::from_slice(alloc, other)?,
     ))?;
-    Ok(MemShelf::new(files, fails))
+    Ok(files)
+}
+
+/// A shelf with the files `s` and `c`, whose calls with the numbers in `fails` are faults.
+pub fn shelf_of(
+    alloc: Global,
+    sheet: &[u8],
+    other: &[u8],
+    fails: Vec<u64>,
+) -> Result<MemShelf, AllocError> {
+    Ok(MemShelf::new(files_of(alloc, sheet, other)?, fails))
 }
 
 /// A sink of so many bytes, with no fault.

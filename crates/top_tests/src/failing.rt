@@ -1,7 +1,7 @@
 //! Failing files and sinks, and files past their limits.
-use super::cases::{assert_said, shelf_of, sink_of, words_of};
+use super::cases::{assert_said, files_of, shelf_of, sink_of, words_of};
 use super::files::{ONE_TASK, ONE_TASK_CERT};
-use poet_io::MemSink;
+use poet_io::{MemShelf, MemSink};
 use std::alloc::{AllocError, Global};
 use std::process::Abort;
 use std::test::Fail;
@@ -284,6 +284,20 @@ fn a_certificate_past_its_limit(rt: HostRuntime) -> Result<(), Fail> {
     let certificate = vec![in alloc; b'p'; 67_108_865]?;
     let line = "limit: certificate is longer than 67108864 bytes\n";
     assert_check(&rt, alloc, ONE_TASK.as_bytes(), &certificate, (7, "", line))?;
+    Ok(())
+}
+
+#[test]
+fn files_that_come_slowly(rt: HostRuntime) -> Result<(), Fail> {
+    let alloc = rt.alloc();
+    let text = b"accepted\ntask a bound 2 deadline 5 met\n".as_slice();
+    for most in [1, 7] {
+        let files = files_of(alloc, ONE_TASK.as_bytes(), ONE_TASK_CERT.as_bytes())?;
+        let shelf = MemShelf::slow(files, Vec::new(alloc), most);
+        let words = words_of(alloc, "check s c")?;
+        let (out, err) = (sink_of(alloc, 99)?, sink_of(alloc, 99)?);
+        assert_said(&rt, alloc, &words, shelf, out, err, (0, text, b""));
+    }
     Ok(())
 }
 

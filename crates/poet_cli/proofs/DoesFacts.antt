@@ -1,0 +1,209 @@
+-- What a command that ended leaves of its shelf, and what its text was printed from.
+use Rattle.std.proofs.Common.{◌≡◌, ◌≢◌, ◌≤◌, ℕ, Bool, true, false, List, Option, Some, None, Result, Ok, Err, IfOk, refl, sym, ap, subst, ◌∙◌, arith}
+use Rattle.poet_io.specs.declared.log.Event.{Event}
+use Rattle.task_sheet.specs.SheetParts.{SheetParts}
+use Rattle.task_sheet.specs.declared.refusal.SheetRefusal.{SheetRefusal}
+use Rattle.task_sheet.specs.declared.refusal.SheetRefusal.TheVariants as sheets
+use Rattle.poet_cli.specs.declared.refusal.Source.{Source}
+use Rattle.poet_cli.specs.declared.refusal.Source.TheVariants as source
+use Rattle.poet_cli.specs.declared.refusal.Refusal.{Refusal}
+use Rattle.poet_cli.specs.declared.refusal.Refusal.TheVariants.{Usage, Read, Sheet, Text, Limit, Points, Jobs, Segments, Memory}
+use Rattle.poet_cli.specs.declared.printed.Printed.{Printed}
+use Rattle.poet_cli.specs.declared.printed.Printed.TheVariants.{Done, JudgedNo}
+use Rattle.poet_cli.specs.Endings.{Ending, IsSound}
+use Rattle.poet_cli.specs.Answers.{sheet_read, sheet_by}
+use Rattle.poet_cli.specs.Words.{Asked, CheckOf, AnalyseOf, SimulateOf, AuditOf, ReportOf, ExerciseOf}
+use Rattle.poet_cli.specs.Readings.{ShelfAt, WasRead, IsFileReading}
+use Rattle.poet_cli.specs.Steps.{Gives, After, Reads, ReadsSheet, NoFile, OneFile, ReadsNext, TwoFiles}
+use Rattle.poet_cli.specs.Origins.{OfOneFile, OfTwoFiles}
+use Rattle.poet_cli.specs.Headline.{Headline}
+use Rattle.poet_cli.specs.Objections.{Objection}
+use Rattle.poet_cli.specs.Program.{Does}
+use Rattle.poet_cli.specs.Clauses.{LeavesShelf}
+
+-- a sheet was read from these bytes
+sheet_is : (read : Result SheetParts SheetRefusal) (parts : SheetParts) → sheet_read read ≡ Ok parts → read ≡ Ok parts
+sheet_is (Ok sheet) parts e = e
+sheet_is (Err sheets.Memory) parts e = absurd (cc)
+sheet_is (Err sheets.Text) parts e = absurd (cc)
+sheet_is (Err (sheets.Unknown place)) parts e = absurd (cc)
+sheet_is (Err (sheets.Missing place field)) parts e = absurd (cc)
+sheet_is (Err (sheets.Kind place field)) parts e = absurd (cc)
+sheet_is (Err (sheets.Range place field)) parts e = absurd (cc)
+sheet_is (Err (sheets.Order place field)) parts e = absurd (cc)
+sheet_is (Err (sheets.Both task)) parts e = absurd (cc)
+sheet_is (Err (sheets.Twice task)) parts e = absurd (cc)
+sheet_is (Err (sheets.Sum task)) parts e = absurd (cc)
+
+-- the bytes that gave a value
+record Gave {A : Type 0} (which : Source) (name : List ℕ) (Ends : List ℕ → Result A Refusal → Type 0) (before now : ShelfAt) (value : A) : Type 0 where
+  pub bytes : List ℕ
+  pub read : WasRead which name before.files before.log now.log bytes
+  pub ends : Ends bytes (Ok value)
+
+gave_by : {A : Type 0} (which : Source) (name : List ℕ) (Ends : List ℕ → Result A Refusal → Type 0) (before now : ShelfAt) (value : A) (gave : Result (List ℕ) Refusal) → IsFileReading which name before now gave → After Ends gave (Ok value) → Gave which name Ends before now value
+gave_by which name Ends before now value (Ok bytes) reading after = record { bytes = bytes; read = reading.calls; ends = after }
+gave_by which name Ends before now value (Err refusal) reading after = absurd (cc)
+
+gave_from : {A : Type 0} (which : Source) (name : List ℕ) (Ends : List ℕ → Result A Refusal → Type 0) (before now : ShelfAt) (value : A) → Reads which name Ends before now (Ok value) → Gave which name Ends before now value
+gave_from which name Ends before now value reads = gave_by which name Ends before now value reads.gave reads.reading reads.after
+
+module _ (name : List ℕ) (Ends : SheetParts → Ending → Type 0) (before now : ShelfAt) (print : Printed) (Holds : SheetParts → Type 0) (holds : (parts : SheetParts) → Ends parts (Ok print) → Holds parts) where
+  one_of_by : (gave : Result SheetParts Refusal) → ReadsSheet name before now gave → After Ends gave (Ok print) → OfOneFile name before.files before.log now.log Holds
+  one_of_by (Ok parts) sheet after =
+      let from : Gave source.Sheet name (λ bytes. Gives (sheet_by bytes)) before now parts = gave_from source.Sheet name _ before now parts sheet in
+      record { bytes = from.bytes; read = from.read; sheet = parts; is_sheet = sheet_is _ parts from.ends; holds = holds parts after }
+  one_of_by (Err refusal) sheet after = absurd (cc)
+
+  one_of : OneFile name Ends before now (Ok print) → OfOneFile name before.files before.log now.log Holds
+  one_of one = one_of_by one.gave one.sheet one.after
+
+module _ (sheet_name : List ℕ) (which : Source) (name : List ℕ) (Ends : SheetParts → List ℕ → Ending → Type 0) (before now : ShelfAt) (print : Printed) (Holds : SheetParts → List ℕ → Type 0)
+    (holds : (parts : SheetParts) (bytes : List ℕ) → Ends parts bytes (Ok print) → Holds parts bytes) where
+  two_of_by : (middle : ShelfAt) (gave : Result SheetParts Refusal) → ReadsSheet sheet_name before middle gave → ReadsNext which name Ends gave middle now (Ok print) → OfTwoFiles sheet_name which name before.files before.log now.log Holds
+  two_of_by middle (Ok parts) sheet next =
+      let from : Gave source.Sheet sheet_name (λ bytes. Gives (sheet_by bytes)) before middle parts = gave_from source.Sheet sheet_name _ before middle parts sheet in
+      let other : Gave which name (Ends parts) middle now print = gave_from which name (Ends parts) middle now print next in
+      record {
+        sheet_bytes = from.bytes;
+        middle = middle.log;
+        sheet_read = from.read;
+        sheet = parts;
+        is_sheet = sheet_is _ parts from.ends;
+        bytes = other.bytes;
+        read = subst (λ told. WasRead which name told middle.log now.log other.bytes) sheet.reading.files other.read;
+        holds = holds parts other.bytes other.ends;
+      }
+  two_of_by middle (Err refusal) sheet next = absurd (cc (next.1))
+
+  two_of : TwoFiles sheet_name which name Ends before now (Ok print) → OfTwoFiles sheet_name which name before.files before.log now.log Holds
+  two_of two = two_of_by two.middle two.gave two.sheet two.next
+
+-- what is printed is true
+pub does_sound : (asked : Option Asked) (before now : ShelfAt) (ending : Ending) → Does asked before now ending →
+    IfOk ending (IsSound (Headline asked before.files before.log now.log) (Objection asked before.files before.log now.log))
+does_sound asked before now (Err refusal) does = tt
+does_sound None before now (Ok print) does = absurd (cc (does.does))
+does_sound (Some (CheckOf sheet certificate deadlines)) before now (Ok (Done text)) does = two_of sheet source.Certificate certificate _ before now (Done text) _ (λ parts bytes judges. judges.sound) does
+does_sound (Some (CheckOf sheet certificate deadlines)) before now (Ok (JudgedNo text)) does = two_of sheet source.Certificate certificate _ before now (JudgedNo text) _ (λ parts bytes judges. judges.sound) does
+does_sound (Some (AnalyseOf sheet horizon)) before now (Ok (Done text)) does = one_of sheet _ before now (Done text) _ (λ parts judges. judges.sound) does
+does_sound (Some (AnalyseOf sheet horizon)) before now (Ok (JudgedNo text)) does = one_of sheet _ before now (JudgedNo text) _ (λ parts judges. judges.sound) does
+does_sound (Some (SimulateOf sheet mode ticks)) before now (Ok (Done text)) does = one_of sheet _ before now (Done text) _ (λ parts judges. judges.sound) does
+does_sound (Some (SimulateOf sheet mode ticks)) before now (Ok (JudgedNo text)) does = (one_of sheet _ before now (JudgedNo text) (λ parts. ⊥) (λ parts judges. judges.sound) does).holds
+does_sound (Some (AuditOf sheet run)) before now (Ok (Done text)) does = two_of sheet source.Run run _ before now (Done text) _ (λ parts bytes judges. judges.sound) does
+does_sound (Some (AuditOf sheet run)) before now (Ok (JudgedNo text)) does = two_of sheet source.Run run _ before now (JudgedNo text) _ (λ parts bytes judges. judges.sound) does
+does_sound (Some (ReportOf sheet certificate form)) before now (Ok (Done text)) does = two_of sheet source.Certificate certificate _ before now (Done text) _ (λ parts bytes judges. judges.sound) does
+does_sound (Some (ReportOf sheet certificate form)) before now (Ok (JudgedNo text)) does = two_of sheet source.Certificate certificate _ before now (JudgedNo text) _ (λ parts bytes judges. judges.sound) does
+does_sound (Some (ExerciseOf seed tasks)) before now (Ok (Done text)) does = does.does.sound
+does_sound (Some (ExerciseOf seed tasks)) before now (Ok (JudgedNo text)) does = does.does.sound
+
+-- nothing is open where a file could not be read
+abbrev pub Shut : {A : Type 0} → Bool → Result A Refusal → Type 0
+Shut is_open (Ok a) = Unit {0}
+Shut is_open (Err Usage) = Unit {0}
+Shut is_open (Err (Read which)) = is_open ≡ false
+Shut is_open (Err (Sheet refusal)) = Unit {0}
+Shut is_open (Err (Text which line)) = Unit {0}
+Shut is_open (Err (Limit which)) = Unit {0}
+Shut is_open (Err (Points name)) = Unit {0}
+Shut is_open (Err Jobs) = Unit {0}
+Shut is_open (Err Segments) = Unit {0}
+Shut is_open (Err Memory) = Unit {0}
+
+gives_shut : {A : Type 0} (answer : Result A Refusal) (is_open : Bool) (result : Result A Refusal) → Gives answer result → Shut is_open result
+gives_shut answer is_open (Ok a) gives = tt
+gives_shut answer is_open (Err Usage) gives = tt
+gives_shut answer is_open (Err (Read which)) gives = absurd gives
+gives_shut answer is_open (Err (Sheet refusal)) gives = tt
+gives_shut answer is_open (Err (Text which line)) gives = tt
+gives_shut answer is_open (Err (Limit which)) gives = tt
+gives_shut answer is_open (Err (Points name)) gives = tt
+gives_shut answer is_open (Err Jobs) gives = tt
+gives_shut answer is_open (Err Segments) gives = tt
+gives_shut answer is_open (Err Memory) gives = tt
+
+-- the files stay, the count of faults has not fallen, and nothing is open where a file could not be read
+pub record Leaves {A : Type 0} (before now : ShelfAt) (result : Result A Refusal) : Type 0 where
+  pub files : now.files ≡ before.files
+  pub later : before.faults ≤ now.faults
+  pub shut : Shut now.is_open result
+
+reading_shut : (which : Source) (name : List ℕ) (before now : ShelfAt) (refusal : Refusal) → IsFileReading which name before now (Err refusal) → Shut {A = Unit {0}} now.is_open (Err refusal)
+reading_shut which name before now (Read at) reading = reading.calls.1.closed
+reading_shut which name before now (Limit at) reading = tt
+reading_shut which name before now Memory reading = tt
+reading_shut which name before now Usage reading = tt
+reading_shut which name before now (Sheet refusal) reading = tt
+reading_shut which name before now (Text at line) reading = tt
+reading_shut which name before now (Points task) reading = tt
+reading_shut which name before now Jobs reading = tt
+reading_shut which name before now Segments reading = tt
+
+shut_same : {A B : Type 0} (is_open : Bool) (refusal : Refusal) → Shut {A = A} is_open (Err refusal) → Shut {A = B} is_open (Err refusal)
+shut_same is_open Usage shut = tt
+shut_same is_open (Read which) shut = shut
+shut_same is_open (Sheet refusal) shut = tt
+shut_same is_open (Text which line) shut = tt
+shut_same is_open (Limit which) shut = tt
+shut_same is_open (Points name) shut = tt
+shut_same is_open Jobs shut = tt
+shut_same is_open Segments shut = tt
+shut_same is_open Memory shut = tt
+
+module _ {A : Type 0} (which : Source) (name : List ℕ) (Ends : List ℕ → Result A Refusal → Type 0) (before now : ShelfAt) (result : Result A Refusal) (answer : List ℕ → Result A Refusal)
+    (gives : (bytes : List ℕ) → Ends bytes result → Gives (answer bytes) result) where
+  reads_shut : (gave : Result (List ℕ) Refusal) → IsFileReading which name before now gave → After Ends gave result → Shut now.is_open result
+  reads_shut (Ok bytes) reading after = gives_shut (answer bytes) now.is_open result (gives bytes after)
+  reads_shut (Err refusal) reading after = rw after (shut_same now.is_open refusal (reading_shut which name before now refusal reading))
+
+  reads_leave : Reads which name Ends before now result → Leaves before now result
+  reads_leave reads = record { files = reads.reading.files; later = reads.reading.later; shut = reads_shut reads.gave reads.reading reads.after }
+
+sheet_leaves : (name : List ℕ) (before now : ShelfAt) (result : Result SheetParts Refusal) → ReadsSheet name before now result → Leaves before now result
+sheet_leaves name before now result sheet = reads_leave source.Sheet name (λ bytes. Gives (sheet_by bytes)) before now result sheet_by (λ bytes gives. gives) sheet
+
+module _ (name : List ℕ) (Ends : SheetParts → Ending → Type 0) (answer : SheetParts → Ending) (before now : ShelfAt) (ending : Ending) (gives : (parts : SheetParts) → Ends parts ending → Gives (answer parts) ending) where
+  one_shut : (gave : Result SheetParts Refusal) → Shut now.is_open gave → After Ends gave ending → Shut now.is_open ending
+  one_shut (Ok parts) shut after = gives_shut (answer parts) now.is_open ending (gives parts after)
+  one_shut (Err refusal) shut after = rw after (shut_same now.is_open refusal shut)
+
+  one_leaves : OneFile name Ends before now ending → Leaves before now ending
+  one_leaves one =
+      let left : Leaves before now one.gave = sheet_leaves name before now one.gave one.sheet in
+      record { files = left.files; later = left.later; shut = one_shut one.gave left.shut one.after }
+
+module _ (sheet_name : List ℕ) (which : Source) (name : List ℕ) (Ends : SheetParts → List ℕ → Ending → Type 0) (answer : SheetParts → List ℕ → Ending) (before middle now : ShelfAt) (ending : Ending)
+    (gives : (parts : SheetParts) (bytes : List ℕ) → Ends parts bytes ending → Gives (answer parts bytes) ending) where
+  two_by : (gave : Result SheetParts Refusal) → Leaves before middle gave → ReadsNext which name Ends gave middle now ending → Leaves before now ending
+  two_by (Ok parts) first next =
+      let left : Leaves middle now ending = reads_leave which name (Ends parts) middle now ending (answer parts) (gives parts) next in
+      record { files = left.files ∙ first.files; later = omega (arith, first.later, left.later); shut = left.shut }
+  two_by (Err refusal) first next =
+      let here : now ≡ middle = next.0 in
+      rw (here, next.1) (record { files = first.files; later = first.later; shut = shut_same middle.is_open refusal first.shut })
+
+two_leaves : (sheet_name : List ℕ) (which : Source) (name : List ℕ) (Ends : SheetParts → List ℕ → Ending → Type 0) (answer : SheetParts → List ℕ → Ending) (before now : ShelfAt) (ending : Ending) →
+    ((parts : SheetParts) (bytes : List ℕ) → Ends parts bytes ending → Gives (answer parts bytes) ending) → TwoFiles sheet_name which name Ends before now ending → Leaves before now ending
+two_leaves sheet_name which name Ends answer before now ending gives two =
+    two_by sheet_name which name Ends answer before two.middle now ending gives two.gave (sheet_leaves sheet_name before two.middle two.gave two.sheet) two.next
+
+none_leaves : (before now : ShelfAt) (ending : Ending) → now ≡ before → Shut now.is_open ending → Leaves before now ending
+none_leaves before now ending none shut = record { files = ap (λ x. x.files) none; later = omega (arith, ap (λ x. x.faults) none); shut = shut }
+
+pub does_leave : (asked : Option Asked) (before now : ShelfAt) (ending : Ending) → Does asked before now ending → Leaves before now ending
+does_leave None before now ending does = none_leaves before now ending does.none (rw does.does tt)
+does_leave (Some (CheckOf sheet certificate deadlines)) before now ending does = two_leaves sheet source.Certificate certificate _ _ before now ending (λ parts bytes judges. judges.gives) does
+does_leave (Some (AnalyseOf sheet horizon)) before now ending does = one_leaves sheet _ _ before now ending (λ parts judges. judges.gives) does
+does_leave (Some (SimulateOf sheet mode ticks)) before now ending does = one_leaves sheet _ _ before now ending (λ parts judges. judges.gives) does
+does_leave (Some (AuditOf sheet run)) before now ending does = two_leaves sheet source.Run run _ _ before now ending (λ parts bytes judges. judges.gives) does
+does_leave (Some (ReportOf sheet certificate form)) before now ending does = two_leaves sheet source.Certificate certificate _ _ before now ending (λ parts bytes judges. judges.gives) does
+does_leave (Some (ExerciseOf seed tasks)) before now ending does = none_leaves before now ending does.none (gives_shut _ now.is_open ending does.does.gives)
+
+-- the clause `shelf`
+shut_read : (is_open : Bool) (ending : Ending) (which : Source) → Shut is_open ending → ending ≡ Err (Read which) → is_open ≡ false
+shut_read is_open ending which shut e = rw e at shut
+
+pub leaves_told : (before now : ShelfAt) (ending : Ending) (status : ℕ) → Leaves before now ending → (status ≡ 3 → (which : Source) × (ending ≡ Err (Read which))) →
+    LeavesShelf before.files now.files before.faults now.faults now.is_open status
+leaves_told before now ending status left read =
+    record { files = left.files; later = left.later; closed = λ e. let at : (which : Source) × (ending ≡ Err (Read which)) = read e in shut_read now.is_open ending at.0 left.shut at.1 }

@@ -13,7 +13,7 @@ use Rattle.poet_io.specs.Texts.{Parses}
 use Rattle.certificate.specs.declared.cert.Entry.{Entry}
 use Rattle.certificate.specs.declared.cert.Point.{Point}
 use Rattle.certificate.specs.declared.cert.Cert.{Cert}
-use Rattle.certificate.specs.Machine.{word_text, after_word, least, greatest, ender, at_place, after_entry, after_point, after_number, in_word, first_digit, more_digits, next, start, IsPlace, IsRight, IsRightField}
+use Rattle.certificate.specs.Machine.{word_text, after_word, least, greatest, ender, at_place, after_entry, after_point, after_number, in_word, first_digit, more_digits, next_place, start, IsPlace, IsRight, IsRightField}
 use Rattle.certificate.specs.declared.place.Word.{Word}
 use Rattle.certificate.specs.declared.place.Word.TheVariants as word
 use Rattle.certificate.specs.declared.place.Field.{Field}
@@ -183,14 +183,14 @@ back_more f i m k v x t right low high =
     }))
     (λ test. rw (end, test) (λ h. absurd h)))
 
-back_at : (e : Expected) (i m k x : ℕ) (t : List ℕ) → IsRight e i k → Left (next (at_place e i m k) x).0 t → LeftAt e i m k (x ∷ t)
+back_at : (e : Expected) (i m k x : ℕ) (t : List ℕ) → IsRight e i k → Left (next_place (at_place e i m k) x).0 t → LeftAt e i m k (x ∷ t)
 back_at (Rest w at) i m k x t right h = back_word w i m k at x t right.0 h
 back_at (Number f) i m k x t right h = back_first f i m k x t h
 back_at (Digits f v) i m k x t right h = back_more f i m k v x t right.2 right.0 right.1 h
 back_at Over i m k x t right h = absurd h
 back_at Nothing i m k x t right h = absurd h
 
-pub back : (p : Place) (x : ℕ) (t : List ℕ) → IsPlace p → Left (next p x).0 t → Left p (x ∷ t)
+pub back : (p : Place) (x : ℕ) (t : List ℕ) → IsPlace p → Left (next_place p x).0 t → Left p (x ∷ t)
 back p x t right h = back_at p.expected p.task p.after p.points x t right.right h
 
 -- no place is without a text that may follow

@@ -12,7 +12,7 @@ use Rattle.certificate.specs.Steps.{point_step, entries_steps, steps_of}
 use Rattle.certificate.specs.declared.cert.Entry.{Entry}
 use Rattle.certificate.specs.declared.cert.Point.{Point}
 use Rattle.certificate.specs.declared.cert.Cert.{Cert}
-use Rattle.certificate.specs.Machine.{word_text, least, greatest, ender, at_place, after_entry, after_point, after_number, next, start, walk}
+use Rattle.certificate.specs.Machine.{word_text, least, greatest, ender, at_place, after_entry, after_point, after_number, next_place, start, walk}
 use Rattle.certificate.specs.declared.place.Word.TheVariants as word
 use Rattle.certificate.specs.declared.place.Field.{Field}
 use Rattle.certificate.specs.declared.place.Field.TheVariants as field
@@ -23,7 +23,7 @@ use Rattle.certificate.specs.declared.step.LineStep.TheVariants as says
 
 pub walk-append : (ss : List LineStep) (p : Place) (xs ys : List ℕ) → walk ss p (xs ++ ys) ≡ walk (walk ss p xs).0 (walk ss p xs).1 ys
 walk-append ss p [] ys = refl
-walk-append ss p (x ∷ xs) ys = walk-append (cond (x == 10) (ss ++ (next p x).1 ∷ []) ss) (next p x).0 xs ys
+walk-append ss p (x ∷ xs) ys = walk-append (cond (x == 10) (ss ++ (next_place p x).1 ∷ []) ss) (next_place p x).0 xs ys
 
 head_read : (ss : List LineStep) (t : List ℕ) → walk ss start (codes "poet-cert 1\n" ++ (codes "tasks " ++ t)) ≡ walk (ss ++ says.More ∷ []) (at_place (Number field.Tasks) 0 0 0) t
 head_read ss t = refl
@@ -34,7 +34,7 @@ end_read ss = refl
 point_read : (ss : List LineStep) (i m k : ℕ) (t : List ℕ) → walk ss (at_place (Rest word.Point 0) i m k) (codes "p " ++ t) ≡ walk ss (at_place (Number field.Offset) i m k) t
 point_read ss i m k t = refl
 
-step_to : (ss : List LineStep) (p q : Place) (s : LineStep) (x : ℕ) (t : List ℕ) → (x == 10) ≡ false → next p x ≡ (q, s) → walk ss p (x ∷ t) ≡ walk ss q t
+step_to : (ss : List LineStep) (p q : Place) (s : LineStep) (x : ℕ) (t : List ℕ) → (x == 10) ≡ false → next_place p x ≡ (q, s) → walk ss p (x ∷ t) ≡ walk ss q t
 step_to ss p q s x t e h = rw (e, h) refl
 
 -- the rest of the word before a task's numbers
@@ -97,7 +97,7 @@ field_read : (f : Field) (i m k n : ℕ) → n < 2 ^ 64 → least f ≤ n → n 
     → walk ss (at_place (Number f) i m k) (decimal n ++ (ender f ∷ t)) ≡ walk (cond (ender f == 10) (ss ++ (after_number i m k f n).1 ∷ []) ss) (after_number i m k f n).0 t
 field_read f i m k n fits low high ss t =
     let e : (ender f == ender f) ≡ true = grind (arith, nat_tests) in
-    let one : next (at_place (Digits f n) i m k) (ender f) ≡ after_number i m k f n = rw e refl in
+    let one : next_place (at_place (Digits f n) i m k) (ender f) ≡ after_number i m k f n = rw e refl in
     number_read f i m k n fits low high ss (ender f ∷ t) ∙ rw one refl
 
 -- a point's line

@@ -60,7 +60,8 @@ fn add_step(alloc: Global, entries: &mut Vec<Entry>, step: LineStep) -> Result<(
 /// wrong or missing.
 pub fn read_cert(alloc: Global, bytes: &[u8]) -> Result<Cert, TextRefusal>
     ensures found { IfOk result (λ cert. Parses cert_format bytes.now cert) }
-    ensures refused { IfErr result (λ e. e ≢ TextRefusal.Memory → IsReading cert_format bytes.now (Err e)) }
+    ensures refused { IfErr result (λ e. e ≢ TextRefusal.Memory →
+        IsReading cert_format bytes.now (Err e)) }
     ensures gives { Gives result (cert_of_text bytes.now) }
 {
     let mut lines = Lines::new();

@@ -6,5 +6,4 @@ pub mod Caps
 pub mod Classes
 pub mod Targets
 pub mod Bounds
-pub mod Across
 pub mod Ends

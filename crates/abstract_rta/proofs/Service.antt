@@ -1,5 +1,7 @@
--- Step "What runs outside" of docs/ANALYSIS.md, its end: by the laws of busy stretches, the supply of a stretch serves the set, but for one segment's rest.
-use Rattle.std.proofs.Common.{◌≡◌, ℕ, zero, suc, ◌+◌, ◌-◌, ◌<◌, ◌≤◌, ◌⊎◌, ◌==◌, ◌&&◌, ◌||◌, Bool, true, false, cond, List, [], ◌∷◌, length, refl, sym, ◌∙◌, ap, subst, inl, inr, arith, add-suc, eq-eqb}
+-- Step "What runs outside" of docs/ANALYSIS.md, its end:
+-- by the laws of busy stretches, the supply of a stretch serves the set, but for one segment's rest.
+use Rattle.std.proofs.Common.{◌≡◌, ℕ, zero, suc, ◌+◌, ◌-◌, ◌<◌, ◌≤◌, ◌⊎◌, ◌==◌, ◌&&◌, ◌||◌, Bool, true, false, cond}
+use Rattle.std.proofs.Common.{List, [], ◌∷◌, length, refl, sym, ◌∙◌, ap, subst, inl, inr, arith, add-suc, eq-eqb}
 use Rattle.std.proofs.lemmas.Bool.{cases_lt, cases_Bool, not-true, eqb-true, and_parts, and_from, or_cases, or_left, or_right}
 use Rattle.lists.proofs.SumFacts.{cond_mono, sum_le, sum_gap}
 use Rattle.run_model.specs.declared.run.Tick.{Tick}
@@ -16,7 +18,8 @@ abbrev numbers_of : (ℕ → Bool) → ℕ → List ℕ
 numbers_of test zero = []
 numbers_of test (suc n) = cond (test n) (n ∷ numbers_of test n) (numbers_of test n)
 
-one_of_first : (b : Bool) (n : ℕ) (us : List ℕ) (k : ℕ) → is_one_of (cond b (n ∷ us) us) k ≡ ((b && (n == k)) || is_one_of us k)
+one_of_first : (b : Bool) (n : ℕ) (us : List ℕ) (k : ℕ) →
+    is_one_of (cond b (n ∷ us) us) k ≡ ((b && (n == k)) || is_one_of us k)
 one_of_first true n us k = refl
 one_of_first false n us k = refl
 
@@ -52,21 +55,24 @@ job_outside set Off h = absurd (cc)
 job_outside set Idle h = absurd (cc)
 job_outside set (Runs k) h = (k, refl, not-true (set k) h)
 
--- a segment of a job outside the set that arrived before s blocks for at most so many ticks
+-- a segment of a job outside the set that was released before s blocks for at most so many ticks
 abbrev pub BlockAtMost : Setting → (ℕ → Bool) → ℕ → ℕ → Type 0
-BlockAtMost g set s most = (k : ℕ) → k < length g.run.jobs → set k ≡ false → (job_at g.run k).arrival < s → segment_of g k - 1 ≤ most
+BlockAtMost g set s most =
+    (k : ℕ) → k < length g.run.jobs → set k ≡ false → (job_at g.run k).release < s → segment_of g k - 1 ≤ most
 
--- what runs of the set in a busy stretch arrived in it
+-- what runs of the set in a busy stretch was released in it
 pub inside_since : (g : Setting) (set : ℕ → Bool) (s u : ℕ) → IsBusy g.run set s u →
-    (v k : ℕ) → s ≤ v → v < u → tick_at g.run v ≡ Runs k → set k ≡ true → s ≤ (job_at g.run k).arrival
-inside_since g set s u stretch v k a b r i = elim (cases_lt (job_at g.run k).arrival s) [
+    (v k : ℕ) → s ≤ v → v < u → tick_at g.run v ≡ Runs k → set k ≡ true → s ≤ (job_at g.run k).release
+inside_since g set s u stretch v k a b r i = elim (cases_lt (job_at g.run k).release s) [
   | inr after ↦ after
   | inl before ↦
       let p = ran g v k (omega (arith, stretch.long)) r in
-      absurd (omega (arith, stretch.quiet k p.listed i before, p.not_done, service_le g.run k s v a (omega (arith, stretch.long))))
+      let more = service_le g.run k s v a (omega (arith, stretch.long)) in
+      absurd (omega (arith, stretch.quiet k p.listed i before, p.not_done, more))
 ]
 
-module _ (g : Setting) (set : ℕ → Bool) (s u : ℕ) (up : IsUpSet g.p g.sheet g.run set) (stretch : IsBusy g.run set s u) where
+module _ (g : Setting) (set : ℕ → Bool) (s u : ℕ) (up : IsUpSet g.p g.sheet g.run set)
+    (stretch : IsBusy g.run set s u) where
   -- the set, given by a list
   abbrev us : List ℕ
   us = numbers_of set (length g.run.jobs)
@@ -81,7 +87,8 @@ module _ (g : Setting) (set : ℕ → Bool) (s u : ℕ) (up : IsUpSet g.p g.shee
     quiet = λ k b i a. stretch.quiet k b (listed_passes set (length g.run.jobs) k i) a;
     busy = λ t a b.
         let p = stretch.busy t a b in
-        record { job = p.job; inside = passes_listed set (length g.run.jobs) p.job p.pending.listed p.inside; pending = p.pending };
+        let inside = passes_listed set (length g.run.jobs) p.job p.pending.listed p.inside in
+        record { job = p.job; inside = inside; pending = p.pending };
   }
 
   outside : (k : ℕ) → k < length g.run.jobs → is_one_of us k ≡ false → set k ≡ false
@@ -141,24 +148,28 @@ module _ (g : Setting) (set : ℕ → Bool) (s u : ℕ) (up : IsUpSet g.p g.shee
     | inl z ↦ omega (arith, z)
     | inr o ↦
         let below : o.at < u = omega (arith, o.to) in
-        let one = g.laws.outsider g.sheet g.laws.valid g.laws.serves g.run g.ok us us_up s u us_busy o.at o.job o.from below o.is o.out in
+        let each = g.laws.outsider g.sheet g.laws.valid g.laws.serves g.run g.ok us us_up s u us_busy in
+        let one = each o.at o.job o.from below o.is o.out in
         let l = (ran g o.at o.job (omega (arith, stretch.long)) o.is).listed in
         let blocks = bound o.job l (outside o.job l o.out) one.early in
         omega (arith, out_of_one o.job one.only (u - s) (omega (arith, stretch.order)), one.short, blocks)
   ]
 
   -- chosen jobs, all that run of the set among them
-  module _ (chosen : ℕ → Bool) (is_chosen : (v k : ℕ) → s ≤ v → v < u → tick_at g.run v ≡ Runs k → set k ≡ true → chosen k ≡ true) where
+  module _ (chosen : ℕ → Bool)
+      (is_chosen : (v k : ℕ) → s ≤ v → v < u → tick_at g.run v ≡ Runs k → set k ≡ true → chosen k ≡ true) where
     served_stays : (t : ℕ) → t < length g.run.ticks → served g chosen t ≤ served g chosen (suc t)
     unfolding served
-    served_stays t h = sum_le _ _ (length g.run.jobs) (λ k b. cond_mono (chosen k) _ _ (omega (arith, service_more g.run k t h)))
+    served_stays t h =
+        sum_le _ _ (length g.run.jobs) (λ k b. cond_mono (chosen k) _ _ (omega (arith, service_more g.run k t h)))
 
     served_grows : (t k : ℕ) → t < length g.run.ticks → k < length g.run.jobs → tick_at g.run t ≡ Runs k → chosen k ≡ true →
         served g chosen t + 1 ≤ served g chosen (suc t)
     unfolding served
     served_grows t k h l r c =
         let one = ap (λ (b : Bool). cond {A = ℕ} b 1 0) (runs_self k (tick_at g.run t) r) in
-        sum_gap (λ k. cond (chosen k) (service_of g.run k t) 0) (λ k. cond (chosen k) (service_of g.run k (suc t)) 0) (length g.run.jobs) k 1 l
+        let at : ℕ → ℕ → ℕ = λ v k. cond (chosen k) (service_of g.run k v) 0 in
+        sum_gap (at t) (at (suc t)) (length g.run.jobs) k 1 l
         (λ k b. cond_mono (chosen k) _ _ (omega (arith, service_more g.run k t h)))
         (where_more (chosen k) _ _ c (omega (arith, service_more g.run k t h, one)))
 
@@ -181,4 +192,5 @@ module _ (g : Setting) (set : ℕ → Bool) (s u : ℕ) (up : IsUpSet g.p g.shee
     pub supply_served : (most : ℕ) → BlockAtMost g set s most → g.sbf (u - s) ≤ most + served g chosen u
     supply_served most bound =
         let e : s + (u - s) ≡ u = omega (arith, stretch.order) in
-        omega (arith, enough, out_bound most bound, inside_served (u - s) (omega (arith, stretch.order)), ap (served g chosen) e)
+        let inside = inside_served (u - s) (omega (arith, stretch.order)) in
+        omega (arith, enough, out_bound most bound, inside, ap (served g chosen) e)

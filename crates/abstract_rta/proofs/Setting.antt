@@ -1,10 +1,12 @@
--- What all steps of docs/ANALYSIS.md up to "Completion" share: a compliant run of a valid sheet, and the laws that the bound rests on.
-use Rattle.std.proofs.Common.{◌≡◌, ℕ, ◌<◌, Bool, true, cond, length}
+-- What all steps of docs/ANALYSIS.md up to "Completion" share:
+-- a compliant run of a valid sheet, and the laws that the bound rests on.
+use Rattle.std.proofs.Common.{◌≡◌, ℕ, ◌*◌, ◌<◌, Bool, true, cond, length}
 use Rattle.lists.specs.Sums.{sum_below}
+use Rattle.curve.specs.Curves.{alpha_of}
 use Rattle.task_sheet.specs.SheetParts.{SheetParts}
-use Rattle.task_sheet.specs.Sheets.{IsValidSheet, task_at}
+use Rattle.task_sheet.specs.Sheets.{IsValidSheet, task_at, IsOf, IsTimely}
 use Rattle.policy.specs.PolicyMeaning.{PolicyMeaning}
-use Rattle.policy.specs.PolicyLaws.{IsOf, IsLawfulPolicy}
+use Rattle.policy.specs.PolicyLaws.{IsLawfulPolicy}
 use Rattle.preemption.specs.CutMeaning.{CutMeaning}
 use Rattle.preemption.specs.CutLaws.{IsLawfulCut, Serves}
 use Rattle.run_model.specs.declared.run.Run.{Run}
@@ -48,8 +50,19 @@ module _ (g : Setting) where
   pub of_sheet : (k : ℕ) → k < length g.run.jobs → IsOf g.sheet (job_at g.run k)
   of_sheet k h = (g.ok.valid.jobs k h).task
 
+  pub timely : (k : ℕ) → k < length g.run.jobs → IsTimely g.sheet (job_at g.run k)
+  timely k h = (g.ok.valid.releases k h).timely
+
   pub fit_of : (k : ℕ) → k < length g.run.jobs → g.m.fits (task_at g.sheet (job_at g.run k).task) (job_at g.run k) ≡ true
   fit_of k h = (g.ok.valid.jobs k h).fit
+
+-- the jitter of task o
+abbrev pub jitter_of : Setting → ℕ → ℕ
+jitter_of g o = (task_at g.sheet o).jitter
+
+-- what the jobs of task o ask for that arrive within w ticks, at most
+abbrev pub demand_in : Setting → ℕ → ℕ → ℕ
+demand_in g o w = (task_at g.sheet o).cost * alpha_of (task_at g.sheet o).curve w
 
 -- the longest segment of the task of job k
 abbrev pub segment_of : Setting → ℕ → ℕ

@@ -5,7 +5,7 @@ use crate::sheets::{EIGHT_TASKS, TWO_DEADLINES, sheet_of};
 use certificate::{Cert, read_cert};
 use policy::{Edf, Fifo, Fp};
 use preemption::PerTask;
-use solver::{AnalyseRefusal, analyse, least_bound, least_end, least_window};
+use solver::{AnalyseRefusal, Part, analyse, least_bound, least_end, least_window};
 use std::alloc::Global;
 use std::test::Fail;
 use supply::Unit;
@@ -111,7 +111,10 @@ task = [
     { name = 'low', cost = 2, deadline = 4, priority = 1, period = 4 },
 ]",
         1000,
-        Err(AnalyseRefusal::NoBound { task: 1 }),
+        Err(AnalyseRefusal::NoBound {
+            task: 1,
+            part: Part::Window,
+        }),
     ),
     (
         "policy = 'fifo'

@@ -1,5 +1,5 @@
 //! Small tasks and jobs.
-use curve::{Prefix, Step};
+use curve::Prefix;
 use lists::{Items, Text};
 use std::alloc::{AllocError, Global};
 use std::test::Fail;
@@ -21,6 +21,8 @@ pub struct Draft<'a> {
     pub cost: u64,
     pub deadline: u64,
     pub priority: u64,
+    pub jitter: u64,
+    pub point: i64,
     pub pieces: Pieces<'a>,
 }
 
@@ -29,6 +31,8 @@ pub const PLAIN: Draft<'static> = Draft {
     cost: 5,
     deadline: 5,
     priority: 1,
+    jitter: 0,
+    point: 0,
     pieces: Pieces::Full,
 };
 
@@ -43,13 +47,14 @@ fn make_cut(alloc: Global, pieces: Pieces<'_>) -> Result<Cut, AllocError> {
 
 /// The task of a draft, of which a job may arrive every 5 ticks.
 pub fn make_task(alloc: Global, draft: &Draft<'_>) -> Result<Task, Fail> {
-    let steps = vec![in alloc; Step { time: 1, value: 1 }]?;
     Ok(Task {
         name: Text::new(String::from_str(alloc, draft.name)?),
         cost: draft.cost,
         deadline: draft.deadline,
         priority: draft.priority,
-        curve: Prefix::check(5, steps)?,
+        jitter: draft.jitter,
+        point: draft.point,
+        curve: Prefix::periodic(alloc, 5)?,
         cut: make_cut(alloc, draft.pieces)?,
     })
 }

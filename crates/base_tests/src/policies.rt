@@ -57,6 +57,7 @@ fn keys_are<P: Policy>(rt: &impl Abort, alloc: Global, sheet: &Sheet, keys: [i64
         let job = Job {
             task,
             arrival: 5,
+            release: 5,
             cost: 1,
             segs,
         };

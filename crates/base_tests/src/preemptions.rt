@@ -48,6 +48,7 @@ fn row_is<M: Preemption>(
     let job = Job {
         task: 0,
         arrival: 0,
+        release: 0,
         cost,
         segs,
     };

@@ -5,19 +5,25 @@ use std::alloc::{AllocError, Global};
 use std::test::Fail;
 use task_sheet::Job;
 
-fn make_job(alloc: Global, task: u32, arrival: u64, cost: u64) -> Job {
+fn make_job(alloc: Global, task: u32, arrival: u64, release: u64, cost: u64) -> Job {
     let segs = Items::new(Vec::new(alloc));
     Job {
         task,
         arrival,
+        release,
         cost,
         segs,
     }
 }
 
-/// Job 0 needs 1 tick from tick 0 on, job 1 needs 2 ticks from tick 1 on.
+/// Job 0 needs 1 tick from tick 0 on, job 1 needs 2 ticks from tick 1 on; job 2 arrives at tick 1
+/// and needs 1 tick from tick 4 on.
 fn short_run(alloc: Global) -> Result<Run, AllocError> {
-    let jobs = vec![in alloc; make_job(alloc, 0, 0, 1), make_job(alloc, 1, 1, 2)]?;
+    let jobs = vec![in alloc;
+        make_job(alloc, 0, 0, 0, 1),
+        make_job(alloc, 1, 1, 1, 2),
+        make_job(alloc, 2, 1, 4, 1),
+    ]?;
     let ticks = [
         Tick::Off,
         Tick::Runs(0),
@@ -44,6 +50,10 @@ fn service_tick_by_tick(rt: HostRuntime) -> Result<(), Fail> {
         (1, 4, 1, false, true),
         (1, 5, 2, true, false),
         (1, 6, 2, true, false),
+        (2, 1, 0, false, false),
+        (2, 3, 0, false, false),
+        (2, 4, 0, false, true),
+        (2, 6, 0, false, true),
     ] {
         assert!(rt; (k as usize) < run.jobs.len() && t as usize <= run.ticks.len());
         let found = (

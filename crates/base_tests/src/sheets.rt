@@ -111,9 +111,31 @@ fn each_task_rule(rt: HostRuntime) -> Result<(), Fail> {
             deadline,
             priority,
             pieces,
+            ..PLAIN
         };
         let found = refusal_of(rt.alloc(), SupplySpec::Unit, &[draft])?;
         assert_eq!(rt; found, want);
+    }
+    Ok(())
+}
+
+/// Neither a jitter nor a priority point is allowed.
+#[test]
+fn neither_jitter_nor_point(rt: HostRuntime) -> Result<(), Fail> {
+    let place = Place::Task(0);
+    for (jitter, point, field) in [
+        (1, 0, Field::Jitter),
+        (0, 1, Field::Point),
+        (0, -1, Field::Point),
+        (1, 1, Field::Jitter),
+    ] {
+        let draft = Draft {
+            jitter,
+            point,
+            ..PLAIN
+        };
+        let found = refusal_of(rt.alloc(), SupplySpec::Unit, &[draft])?;
+        assert_eq!(rt; found, Some(SheetRefusal::Range { place, field }));
     }
     Ok(())
 }

@@ -12,7 +12,8 @@ use Rattle.certificate.specs.Parsing.{cert_of_text}
 use Rattle.conditions.specs.declared.failed.Failed.{Failed}
 use Rattle.abstract_rta.specs.Bounds.{PointsBound}
 use Rattle.conditions.specs.Conditions.{entry_at, no_entry, failed_of}
-use Rattle.conditions.specs.Meets.{IsInTime, CertMeets, FailedMeans}
+use Rattle.conditions.specs.Meets.{IsInTime, pairs_of, CertMeets, FailedMeans}
+use Rattle.conditions.proofs.MeetFacts.{pairs_count}
 use Rattle.policy.specs.PolicyMeaning.{PolicyMeaning}
 use Rattle.preemption.specs.CutMeaning.{CutMeaning}
 use Rattle.preemption.specs.CutLaws.{Serves}
@@ -45,7 +46,9 @@ module _ (p : PolicyMeaning) (m : CutMeaning) (sbf : ℕ → ℕ) (sheet : Sheet
       let holds : (i : ℕ) → i < length sheet.tasks → IsBounded p m sbf sheet i (entry_at cert i).bound = λ i lt.
       let fits : IsEntry (entry_at cert i) = All-get_or IsEntry cert.entries i no_entry (omega (arith, meets.count)) within.entries in
       let task = meets.tasks i lt in
-      law sheet valid served i (entry_at cert i).window (entry_at cert i).bound (entry_at cert i).points lt task.window fits.some task.points
+      let e : Entry = entry_at cert i in
+      let some : 1 ≤ length (pairs_of e.points) = omega (arith, fits.some, pairs_count e.points) in
+      law sheet valid served i e.window e.bound (pairs_of e.points) lt task.covers task.window some task.points
       in
       record {
         count = simp length-map meets.count;

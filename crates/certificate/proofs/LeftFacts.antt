@@ -8,11 +8,12 @@ use Rattle.std.proofs.lemmas.Fmt.{decimal_digit}
 use Rattle.std.proofs.lemmas.Bool.{and_parts}
 use Rattle.poet_io.proofs.DecimalFacts.{decimal_more}
 use Rattle.certificate.proofs.FieldFacts.{cases, eq_from_test, le_from_test, positive_from_test, digit_and, greatest_small}
-use Rattle.certificate.specs.Text.{point_text, entries_text, IsPoint, IsEntry, cert_format}
+use Rattle.certificate.specs.Text.{point_of, point_text, entries_text, IsPoint, IsEntry, cert_format}
 use Rattle.poet_io.specs.Texts.{Parses}
 use Rattle.certificate.specs.declared.cert.Entry.{Entry}
+use Rattle.certificate.specs.declared.cert.Point.{Point}
 use Rattle.certificate.specs.declared.cert.Cert.{Cert}
-use Rattle.certificate.specs.Machine.{word_text, after_word, least, greatest, ender, at_place, after_entry, after_point, after_number, in_word, first_digit, more_digits, next, start, IsPlace, IsRight, IsRightField}
+use Rattle.certificate.specs.Machine.{word_text, after_word, least, greatest, ender, at_place, after_entry, after_point, after_number, in_word, first_digit, more_digits, next_place, start, IsPlace, IsRight, IsRightField}
 use Rattle.certificate.specs.declared.place.Word.{Word}
 use Rattle.certificate.specs.declared.place.Word.TheVariants as word
 use Rattle.certificate.specs.declared.place.Field.{Field}
@@ -182,14 +183,14 @@ back_more f i m k v x t right low high =
     }))
     (λ test. rw (end, test) (λ h. absurd h)))
 
-back_at : (e : Expected) (i m k x : ℕ) (t : List ℕ) → IsRight e i k → Left (next (at_place e i m k) x).0 t → LeftAt e i m k (x ∷ t)
+back_at : (e : Expected) (i m k x : ℕ) (t : List ℕ) → IsRight e i k → Left (next_place (at_place e i m k) x).0 t → LeftAt e i m k (x ∷ t)
 back_at (Rest w at) i m k x t right h = back_word w i m k at x t right.0 h
 back_at (Number f) i m k x t right h = back_first f i m k x t h
 back_at (Digits f v) i m k x t right h = back_more f i m k v x t right.2 right.0 right.1 h
 back_at Over i m k x t right h = absurd h
 back_at Nothing i m k x t right h = absurd h
 
-pub back : (p : Place) (x : ℕ) (t : List ℕ) → IsPlace p → Left (next p x).0 t → Left p (x ∷ t)
+pub back : (p : Place) (x : ℕ) (t : List ℕ) → IsPlace p → Left (next_place p x).0 t → Left p (x ∷ t)
 back p x t right h = back_at p.expected p.task p.after p.points x t right.right h
 
 -- no place is without a text that may follow
@@ -253,7 +254,7 @@ some_left p right good = some_at p.expected p.task p.after p.points right.right 
 
 -- what is left at the start is the text of a certificate
 pub record HasPoints (K : Lang) (k : ℕ) (t : List ℕ) : Type 0 where
-  pub points : List (ℕ × ℕ)
+  pub points : List Point
   pub rest : List ℕ
   pub count : length points ≡ k
   pub each : All IsPoint points
@@ -271,10 +272,10 @@ points_of K (suc k) t h =
     let x = a.after in
     let others = points_of K k x.rest x.after in
     record {
-      points = (a.n, x.n) ∷ others.points;
+      points = point_of a.n x.n ∷ others.points;
       rest = others.rest;
       count = ap suc others.count;
-      each = All-cons IsPoint (a.n, x.n) others.points (record { offset = a.high; end = x.high }) others.each;
+      each = All-cons IsPoint (point_of a.n x.n) others.points (record { offset = a.high; end = x.high }) others.each;
       is = point_join t h.rest a.rest x.rest others.rest (decimal a.n) (decimal x.n) (flat_map point_text others.points) h.is a.is x.is others.is;
       after = others.after;
     }

@@ -4,7 +4,7 @@ use Rattle.std.specs.Char.{is_ascii_digit}
 use Rattle.std.proofs.lemmas.Bool.{and_parts}
 use Rattle.poet_io.proofs.DecimalFacts.{digit_from_test}
 use Rattle.certificate.proofs.FieldFacts.{cases, eq_from_test, ne_from_test, le_from_test, digit_is_inside, nine_fits}
-use Rattle.certificate.specs.Machine.{word_text, after_word, least, greatest, ender, at_place, after_entry, after_point, after_number, in_word, most, most_word, most_field, is_good_at, IsProgress, first_digit, more_digits, next, IsPlace, IsRight, IsRightWord, bad}
+use Rattle.certificate.specs.Machine.{word_text, after_word, least, greatest, ender, at_place, after_entry, after_point, after_number, in_word, most, most_word, most_field, is_good_at, IsProgress, first_digit, more_digits, next_place, IsPlace, IsRight, IsRightWord, bad}
 use Rattle.certificate.specs.declared.place.Word.{Word}
 use Rattle.certificate.specs.declared.place.Word.TheVariants as word
 use Rattle.certificate.specs.declared.place.Field.{Field}
@@ -116,7 +116,7 @@ more_lines f i m k v x line n p le =
     rw (end, test) (λ c. record { right = record { few = p.few; points = p.points; right = (omega (arith, p.right.0), le_from_test (v * 10 + (x - 48)) (greatest f) q.1, p.right.2) }; small = omega (arith, c.inside (digit_is_inside x t.0)) }))
     (λ test. rw (end, test) (λ c. bad_lines x (most_field f i k) line n (most_top (Digits f v) i k (omega (arith, p.few)) p.right) le c)))
 
-lines_at : (e : Expected) (i m k x line n : ℕ) → IsPlace (at_place e i m k) → line ≤ most e i k → Counts x (next (at_place e i m k) x).0.expected line n → IsProgress (next (at_place e i m k) x).0 n
+lines_at : (e : Expected) (i m k x line n : ℕ) → IsPlace (at_place e i m k) → line ≤ most e i k → Counts x (next_place (at_place e i m k) x).0.expected line n → IsProgress (next_place (at_place e i m k) x).0 n
 lines_at (Rest w at) i m k x line n p le c = word_lines w i m k at x line n p le c
 lines_at (Number f) i m k x line n p le c = first_lines f i m k x line n p le c
 lines_at (Digits f v) i m k x line n p le c = more_lines f i m k v x line n p le c
@@ -130,8 +130,8 @@ counts x q line = cases (x == 10)
     (λ b. rw (a, b) (record { one = omega arith; inside = λ no. omega arith; bad = λ no. omega arith })))
     (λ a. rw a (record { one = omega arith; inside = λ no. omega arith; bad = λ no. omega arith }))
 
-pub lines_next : (p : Place) (x line : ℕ) → IsProgress p line → IsProgress (next p x).0 (cond (x == 10 && is_good_at (next p x).0.expected) (line + 1) line)
-lines_next p x line h = lines_at p.expected p.task p.after p.points x line _ h.right h.small (counts x (next p x).0.expected line)
+pub lines_next : (p : Place) (x line : ℕ) → IsProgress p line → IsProgress (next_place p x).0 (cond (x == 10 && is_good_at (next_place p x).0.expected) (line + 1) line)
+lines_next p x line h = lines_at p.expected p.task p.after p.points x line _ h.right h.small (counts x (next_place p x).0.expected line)
 
 pub line_fits : (p : Place) (line : ℕ) → IsProgress p line → line ≤ 768006937
 line_fits p line h = omega (arith, h.small, most_top p.expected p.task p.points (omega (arith, h.right.few)) h.right.right)

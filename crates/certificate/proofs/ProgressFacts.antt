@@ -11,7 +11,7 @@ use Rattle.certificate.specs.Steps.{steps_of}
 use Rattle.certificate.specs.Progress.{Progress}
 use Rattle.certificate.specs.declared.cert.Cert.{Cert}
 use Rattle.certificate.proofs.FieldFacts.{eq_from_test}
-use Rattle.certificate.specs.Machine.{word_text, after_word, least, greatest, ender, at_place, after_point, after_number, StandsFor, after_byte, after_bytes, beginning, is_good_at, is_over_at, IsProgress, word_step, next, start, IsPlace, bad, walk}
+use Rattle.certificate.specs.Machine.{word_text, after_word, least, greatest, ender, at_place, after_point, after_number, StandsFor, after_byte, after_bytes, beginning, is_good_at, is_over_at, IsProgress, word_step, next_place, start, IsPlace, bad, walk}
 use Rattle.certificate.specs.declared.place.Word.{Word}
 use Rattle.certificate.specs.declared.place.Word.TheVariants as word
 use Rattle.certificate.specs.declared.place.Field.{Field}
@@ -40,7 +40,7 @@ stands_next l b x h = record { is = ap (λ (v : Progress). after_byte v x) h.is 
 -- what is said so far does not matter for the place
 place_of : (ss : List LineStep) (l : Progress) (b : List ℕ) → (after_bytes l b).place ≡ (walk ss l.place b).1
 place_of ss l [] = refl
-place_of ss l (x ∷ b) = place_of (cond (x == 10) (ss ++ (next l.place x).1 ∷ []) ss) (after_byte l x) b
+place_of ss l (x ∷ b) = place_of (cond (x == 10) (ss ++ (next_place l.place x).1 ∷ []) ss) (after_byte l x) b
 
 lines_all : (l : Progress) (b : List ℕ) → IsProgress l.place l.line → IsProgress (after_bytes l b).place (after_bytes l b).line
 lines_all l [] h = h
@@ -49,12 +49,12 @@ lines_all l (x ∷ b) h = lines_all (after_byte l x) b (lines_next l.place x l.l
 right_all : (b : List ℕ) → IsPlace (after_bytes beginning b).place
 right_all b = (lines_all beginning b start_right).right
 
-nothing_next : (e : Expected) (i m k x : ℕ) → e ≡ Nothing → (next (at_place e i m k) x).0.expected ≡ Nothing
+nothing_next : (e : Expected) (i m k x : ℕ) → e ≡ Nothing → (next_place (at_place e i m k) x).0.expected ≡ Nothing
 nothing_next e i m k x h = rw h refl
 
 nothing_stays : (ss : List LineStep) (p : Place) (t : List ℕ) → p.expected ≡ Nothing → (walk ss p t).1.expected ≡ Nothing
 nothing_stays ss p [] h = h
-nothing_stays ss p (x ∷ t) h = nothing_stays (cond (x == 10) (ss ++ (next p x).1 ∷ []) ss) (next p x).0 t (nothing_next p.expected p.task p.after p.points x h)
+nothing_stays ss p (x ∷ t) h = nothing_stays (cond (x == 10) (ss ++ (next_place p x).1 ∷ []) ss) (next_place p x).0 t (nothing_next p.expected p.task p.after p.points x h)
 
 left_all : (l : Progress) (b t : List ℕ) → IsProgress l.place l.line → Left (after_bytes l b).place t → Left l.place (b ++ t)
 left_all l [] t right h = h
@@ -93,8 +93,8 @@ over_from_parses b c h = ap (λ (p : Place). p.expected) (place_of [] beginning 
 said_front : (ss : List LineStep) (p : Place) (t : List ℕ) → (walk ss p t).0 ≡ ss ++ (walk [] p t).0
 said_front ss p [] = sym (append-nil ss)
 said_front ss p (x ∷ t) =
-    let s = (next p x).1 in
-    let q = (next p x).0 in
+    let s = (next_place p x).1 in
+    let q = (next_place p x).0 in
     let first = λ (w : Bool) (e : x == 10 ≡ w). ap (λ (w : Bool). (walk (cond w (ss ++ s ∷ []) ss) q t).0) e in
     let again = λ (w : Bool) (e : x == 10 ≡ w). ap (λ (w : Bool). ss ++ (walk (cond w (s ∷ []) []) q t).0) (sym e) in
     elim (cases_Bool (x == 10)) [
@@ -108,8 +108,8 @@ newlines_push b x = sum_by_push (λ y. cond (y == 10) 1 0) b x
 pub said_count : (done b : List ℕ) (ss : List LineStep) (p : Place) → length ss ≡ newlines done → length (walk ss p b).0 ≡ newlines (done ++ b)
 said_count done [] ss p h = h ∙ ap newlines (sym (append-nil done))
 said_count done (x ∷ b) ss p h =
-    let s = (next p x).1 in
-    let q = (next p x).0 in
+    let s = (next_place p x).1 in
+    let q = (next_place p x).0 in
     let first = λ (w : Bool) (e : x == 10 ≡ w). ap (λ (w : Bool). length (walk (cond w (ss ++ s ∷ []) ss) q b).0) e in
     elim (cases_Bool (x == 10)) [
       | inl is_ten ↦ first true is_ten ∙ said_count (done ++ x ∷ []) b (ss ++ s ∷ []) q (omega (arith, length_push ss s, newlines_push done x, ap (λ (w : Bool). cond {A = ℕ} w 1 0) is_ten)) ∙ ap newlines (append_assoc done (x ∷ []) b)
@@ -133,7 +133,7 @@ quiet_word word.End i at x not_so here last =
     let ten : 10 ≡ x = subst (λ (w : ℕ). slice_index (codes "end\n") w ≡ x) three here in
     absurd (grind (arith, nat_tests))
 
-quiet_at : (e : Expected) (i m k x : ℕ) → (x == 10) ≡ false → ((next (at_place e i m k) x).0.expected ≡ Nothing → ⊥) → (next (at_place e i m k) x).1 ≡ says.More
+quiet_at : (e : Expected) (i m k x : ℕ) → (x == 10) ≡ false → ((next_place (at_place e i m k) x).0.expected ≡ Nothing → ⊥) → (next_place (at_place e i m k) x).1 ≡ says.More
 quiet_at (Rest w at) i m k x not_so = elim (cases_Bool (slice_index (word_text w i) at == x)) [
   | inl here ↦ elim (cases_Bool (at + 1 == length (word_text w i))) [
     | inl last ↦ rw (here, last) (λ good. quiet_word w i at x not_so (eq_from_test (slice_index (word_text w i) at) x here) (eq_from_test (at + 1) (length (word_text w i)) last))
@@ -156,15 +156,15 @@ quiet_at Over i m k x not_so = λ good. absurd (good refl)
 quiet_at Nothing i m k x not_so = λ good. absurd (good refl)
 
 pub says_is : (b more : List ℕ) (x : ℕ) (c : Cert) → Parses cert_format (b ++ x ∷ more) c →
-    (next (after_bytes beginning b).place x).1 ≡ cond (x == 10) (slice_index_or (steps_of c) (newlines b) says.More) says.More
+    (next_place (after_bytes beginning b).place x).1 ≡ cond (x == 10) (slice_index_or (steps_of c) (newlines b) says.More) says.More
 says_is b more x c h =
     let r = walk [] start b in
     let place : (after_bytes beginning b).place ≡ r.1 = place_of [] beginning b in
     let all : walk r.0 r.1 (x ∷ more) ≡ (steps_of c, at_place Over 0 0 0) = sym (walk-append [] start b (x ∷ more)) ∙ ap (λ (t : List ℕ). walk [] start t) h.text ∙ text_walk c h.within in
     let count : length r.0 ≡ newlines b = said_count [] b [] start refl in
-    let s = (next r.1 x).1 in
-    let q = (next r.1 x).0 in
-    let good : ((next r.1 x).0.expected ≡ Nothing → ⊥) = λ nothing.
+    let s = (next_place r.1 x).1 in
+    let q = (next_place r.1 x).0 in
+    let good : ((next_place r.1 x).0.expected ≡ Nothing → ⊥) = λ nothing.
     let stays = nothing_stays (cond (x == 10) (r.0 ++ s ∷ []) r.0) q more nothing in
     let over = ap (λ (y : List LineStep × Place). y.1.expected) all in
     absurd (cc) in
@@ -207,7 +207,7 @@ tells_word word.Task i m k = tells_good _ _ (λ h. cc) (λ h. cc)
 tells_word word.Point i m k = tells_good _ _ (λ h. cc) (λ h. cc)
 tells_word word.End i m k = tells_good _ _ (λ h. cc) (λ h. cc)
 
-tells_at : (e : Expected) (i m k x : ℕ) → Tells (next (at_place e i m k) x)
+tells_at : (e : Expected) (i m k x : ℕ) → Tells (next_place (at_place e i m k) x)
 tells_at (Rest w at) i m k x = elim (cases_Bool (slice_index (word_text w i) at == x)) [
   | inl here ↦ elim (cases_Bool (at + 1 == length (word_text w i))) [
     | inl last ↦ rw (here, last) (tells_word w i m k)
@@ -236,13 +236,13 @@ nothing_or_good (Digits f v) = inr (λ h. cc)
 nothing_or_good Over = inr (λ h. cc)
 nothing_or_good Nothing = inl refl
 
-pub bad_is : (b : List ℕ) (x : ℕ) → ((next (after_bytes beginning b).place x).1 ≡ says.Bad) ↔ (BeginsText cert_format (b ++ x ∷ []) → ⊥)
+pub bad_is : (b : List ℕ) (x : ℕ) → ((next_place (after_bytes beginning b).place x).1 ≡ says.Bad) ↔ (BeginsText cert_format (b ++ x ∷ []) → ⊥)
 bad_is b x =
     let p = (after_bytes beginning b).place in
     let tells = tells_at p.expected p.task p.after p.points x in
-    let same : (after_bytes beginning (b ++ x ∷ [])).place ≡ (next p x).0 = ap (λ (l : Progress). l.place) (after_bytes-append beginning b (x ∷ [])) in (
+    let same : (after_bytes beginning (b ++ x ∷ [])).place ≡ (next_place p x).0 = ap (λ (l : Progress). l.place) (after_bytes-append beginning b (x ∷ [])) in (
       λ h begins. good_from_begins (b ++ x ∷ []) begins (ap (λ (q : Place). q.expected) same ∙ tells.to h),
-      λ h. elim (nothing_or_good (next p x).0.expected) [
+      λ h. elim (nothing_or_good (next_place p x).0.expected) [
         | inl nothing ↦ tells.from nothing
         | inr good ↦ absurd (h (begins_from_good (b ++ x ∷ []) (λ nothing. good (sym (ap (λ (q : Place). q.expected) same) ∙ nothing))))
       ],
@@ -301,7 +301,7 @@ and_false false = refl
 refused_next : (b : List ℕ) (x : ℕ) → IsRefusedLine cert_format b (after_bytes beginning b).line → IsRefusedLine cert_format (b ++ x ∷ []) (after_bytes beginning (b ++ x ∷ [])).line
 refused_next b x h =
     let l = after_bytes beginning b in
-    let q = (next l.place x).0 in
+    let q = (next_place l.place x).0 in
     let same : (after_bytes beginning (b ++ x ∷ [])).line ≡ cond (x == 10 && is_good_at q.expected) (l.line + 1) l.line = ap (λ (v : Progress). v.line) (after_bytes-append beginning b (x ∷ [])) in
     let place : (after_bytes beginning (b ++ x ∷ [])).place.expected ≡ q.expected = ap (λ (v : Progress). v.place.expected) (after_bytes-append beginning b (x ∷ [])) in
     elim (nothing_or_good q.expected) [
@@ -318,12 +318,12 @@ pub line_is : (b : List ℕ) → IsRefusedLine cert_format b (after_bytes beginn
 line_is b = refused_from [] b (record { front = []; rest = []; whole = refl; begins = begins_from_good [] (λ h. cc); longest = λ longer more e _. omega (arith, ap length e, length-append longer more); line = refl })
 
 -- the same, of a value that stands for the bytes
-pub bad_stands : (l : Progress) (b : List ℕ) (x : ℕ) → StandsFor l b → ((next l.place x).1 ≡ says.Bad) ↔ (BeginsText cert_format (b ++ x ∷ []) → ⊥)
-bad_stands l b x h = subst (λ (v : Progress). ((next v.place x).1 ≡ says.Bad) ↔ (BeginsText cert_format (b ++ x ∷ []) → ⊥)) (sym h.is) (bad_is b x)
+pub bad_stands : (l : Progress) (b : List ℕ) (x : ℕ) → StandsFor l b → ((next_place l.place x).1 ≡ says.Bad) ↔ (BeginsText cert_format (b ++ x ∷ []) → ⊥)
+bad_stands l b x h = subst (λ (v : Progress). ((next_place v.place x).1 ≡ says.Bad) ↔ (BeginsText cert_format (b ++ x ∷ []) → ⊥)) (sym h.is) (bad_is b x)
 
 pub says_stands : (l : Progress) (b more : List ℕ) (x : ℕ) (c : Cert) → StandsFor l b → Parses cert_format (b ++ x ∷ more) c →
-    (next l.place x).1 ≡ cond (x == 10) (slice_index_or (steps_of c) (newlines b) says.More) says.More
-says_stands l b more x c h parses = ap (λ (v : Progress). (next v.place x).1) h.is ∙ says_is b more x c parses
+    (next_place l.place x).1 ≡ cond (x == 10) (slice_index_or (steps_of c) (newlines b) says.More) says.More
+says_stands l b more x c h parses = ap (λ (v : Progress). (next_place v.place x).1) h.is ∙ says_is b more x c parses
 
 pub over_test : (e : Expected) → is_over_at e ≡ true → e ≡ Over
 over_test (Rest w at) h = absurd (cc)

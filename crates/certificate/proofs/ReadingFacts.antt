@@ -1,5 +1,5 @@
 -- Any bytes have one reading.
-use Rattle.std.proofs.Common.{◌≡◌, ℕ, ◌+◌, Bool, false, IsTrue, ◌↔◌, List, [], ◌∷◌, ◌++◌, length, refl, sym, ap, subst, ◌∙◌, arith, Result, Ok, Err}
+use Rattle.std.proofs.Common.{◌≡◌, ℕ, Bool, false, IsTrue, ◌↔◌, List, [], refl, sym, ap, subst, ◌∙◌, Result, Ok}
 use Rattle.std.proofs.lemmas.Bool.{both_ways}
 use Rattle.poet_io.specs.declared.text_refusal.TextRefusal.{TextRefusal}
 use Rattle.poet_io.specs.Texts.{Parses, IsRefusedLine, IsRefusedAt, IsReading, HaveOneReading}

@@ -10,6 +10,7 @@ use Rattle.certificate.specs.Steps.{steps_of, entries_steps, point_step}
 use Rattle.certificate.specs.Parsing.{with_point, add_point, add_step, entries_of}
 use Rattle.certificate.specs.Machine.{start, walk}
 use Rattle.certificate.specs.declared.cert.Entry.{Entry}
+use Rattle.certificate.specs.declared.cert.Point.{Point}
 use Rattle.certificate.specs.declared.cert.Cert.{Cert}
 use Rattle.certificate.specs.declared.step.LineStep.{LineStep}
 use Rattle.certificate.specs.declared.step.LineStep.TheVariants as says
@@ -49,16 +50,16 @@ pub all_said : (b : List ℕ) (c : Cert) → Parses cert_format b c → length (
 all_said b c h = ap (λ (r : _). length r.0) (sym (text_walk c h.within)) ∙ ap (λ (t : List ℕ). length (walk [] start t).0) (sym h.text) ∙ said_count [] b [] start refl
 
 -- the lines of a certificate make its entries
-pub add_point-last : (front : List Entry) (e : Entry) (p : ℕ × ℕ) → add_point (front ++ e ∷ []) p ≡ front ++ with_point e p ∷ []
+pub add_point-last : (front : List Entry) (e : Entry) (p : Point) → add_point (front ++ e ∷ []) p ≡ front ++ with_point e p ∷ []
 add_point-last [] e p = refl
 add_point-last (f ∷ []) e p = refl
 add_point-last (f ∷ (g ∷ front)) e p = ap (λ (l : List Entry). f ∷ l) (add_point-last (g ∷ front) e p)
 
-points_built : (ps : List (ℕ × ℕ)) (front : List Entry) (e : Entry) → fold add_step (front ++ e ∷ []) (map point_step ps) ≡ front ++ (record { window = e.window; bound = e.bound; points = e.points ++ ps }) ∷ []
-points_built [] front e = ap (λ (l : List (ℕ × ℕ)). front ++ (record { window = e.window; bound = e.bound; points = l }) ∷ []) (sym (append-nil e.points))
+points_built : (ps : List Point) (front : List Entry) (e : Entry) → fold add_step (front ++ e ∷ []) (map point_step ps) ≡ front ++ (record { window = e.window; bound = e.bound; points = e.points ++ ps }) ∷ []
+points_built [] front e = ap (λ (l : List Point). front ++ (record { window = e.window; bound = e.bound; points = l }) ∷ []) (sym (append-nil e.points))
 points_built (p ∷ ps) front e =
     ap (λ (l : List Entry). fold add_step l (map point_step ps)) (add_point-last front e p) ∙ points_built ps front (with_point e p)
-    ∙ ap (λ (l : List (ℕ × ℕ)). front ++ (record { window = e.window; bound = e.bound; points = l }) ∷ []) (append_assoc e.points (p ∷ []) ps)
+    ∙ ap (λ (l : List Point). front ++ (record { window = e.window; bound = e.bound; points = l }) ∷ []) (append_assoc e.points (p ∷ []) ps)
 
 entries_built : (es front : List Entry) (i : ℕ) → fold add_step front (entries_steps i es) ≡ front ++ es
 entries_built [] front i = sym (append-nil front)

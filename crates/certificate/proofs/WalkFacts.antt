@@ -10,8 +10,9 @@ use Rattle.certificate.proofs.FieldFacts.{least_one, ender_small}
 use Rattle.certificate.specs.Text.{point_text, entry_line, entries_text, text_of, IsPoint, IsEntry, IsWithinGrammar}
 use Rattle.certificate.specs.Steps.{point_step, entries_steps, steps_of}
 use Rattle.certificate.specs.declared.cert.Entry.{Entry}
+use Rattle.certificate.specs.declared.cert.Point.{Point}
 use Rattle.certificate.specs.declared.cert.Cert.{Cert}
-use Rattle.certificate.specs.Machine.{word_text, least, greatest, ender, at_place, after_entry, after_point, after_number, next, start, walk}
+use Rattle.certificate.specs.Machine.{word_text, least, greatest, ender, at_place, after_entry, after_point, after_number, next_place, start, walk}
 use Rattle.certificate.specs.declared.place.Word.TheVariants as word
 use Rattle.certificate.specs.declared.place.Field.{Field}
 use Rattle.certificate.specs.declared.place.Field.TheVariants as field
@@ -22,7 +23,7 @@ use Rattle.certificate.specs.declared.step.LineStep.TheVariants as says
 
 pub walk-append : (ss : List LineStep) (p : Place) (xs ys : List ℕ) → walk ss p (xs ++ ys) ≡ walk (walk ss p xs).0 (walk ss p xs).1 ys
 walk-append ss p [] ys = refl
-walk-append ss p (x ∷ xs) ys = walk-append (cond (x == 10) (ss ++ (next p x).1 ∷ []) ss) (next p x).0 xs ys
+walk-append ss p (x ∷ xs) ys = walk-append (cond (x == 10) (ss ++ (next_place p x).1 ∷ []) ss) (next_place p x).0 xs ys
 
 head_read : (ss : List LineStep) (t : List ℕ) → walk ss start (codes "poet-cert 1\n" ++ (codes "tasks " ++ t)) ≡ walk (ss ++ says.More ∷ []) (at_place (Number field.Tasks) 0 0 0) t
 head_read ss t = refl
@@ -33,7 +34,7 @@ end_read ss = refl
 point_read : (ss : List LineStep) (i m k : ℕ) (t : List ℕ) → walk ss (at_place (Rest word.Point 0) i m k) (codes "p " ++ t) ≡ walk ss (at_place (Number field.Offset) i m k) t
 point_read ss i m k t = refl
 
-step_to : (ss : List LineStep) (p q : Place) (s : LineStep) (x : ℕ) (t : List ℕ) → (x == 10) ≡ false → next p x ≡ (q, s) → walk ss p (x ∷ t) ≡ walk ss q t
+step_to : (ss : List LineStep) (p q : Place) (s : LineStep) (x : ℕ) (t : List ℕ) → (x == 10) ≡ false → next_place p x ≡ (q, s) → walk ss p (x ∷ t) ≡ walk ss q t
 step_to ss p q s x t e h = rw (e, h) refl
 
 -- the rest of the word before a task's numbers
@@ -96,22 +97,22 @@ field_read : (f : Field) (i m k n : ℕ) → n < 2 ^ 64 → least f ≤ n → n 
     → walk ss (at_place (Number f) i m k) (decimal n ++ (ender f ∷ t)) ≡ walk (cond (ender f == 10) (ss ++ (after_number i m k f n).1 ∷ []) ss) (after_number i m k f n).0 t
 field_read f i m k n fits low high ss t =
     let e : (ender f == ender f) ≡ true = grind (arith, nat_tests) in
-    let one : next (at_place (Digits f n) i m k) (ender f) ≡ after_number i m k f n = rw e refl in
+    let one : next_place (at_place (Digits f n) i m k) (ender f) ≡ after_number i m k f n = rw e refl in
     number_read f i m k n fits low high ss (ender f ∷ t) ∙ rw one refl
 
 -- a point's line
-one_point : (p : ℕ × ℕ) (ss : List LineStep) (i m k : ℕ) (t : List ℕ) → IsPoint p
+one_point : (p : Point) (ss : List LineStep) (i m k : ℕ) (t : List ℕ) → IsPoint p
     → walk ss (after_point i m (suc k)) (point_text p ++ t) ≡ walk (ss ++ point_step p ∷ []) (after_point i m k) t
 one_point p ss i m k t h =
     let less : suc k - 1 ≡ k = omega arith in
-    let same : point_text p ++ t ≡ codes "p " ++ (decimal p.0 ++ (32 ∷ (decimal p.1 ++ (10 ∷ t)))) = simp append_assoc in
+    let same : point_text p ++ t ≡ codes "p " ++ (decimal p.offset ++ (32 ∷ (decimal p.end ++ (10 ∷ t)))) = simp append_assoc in
     ap (walk ss (after_point i m (suc k))) same
-    ∙ point_read ss i m (suc k) (decimal p.0 ++ (32 ∷ (decimal p.1 ++ (10 ∷ t))))
-    ∙ field_read field.Offset i m (suc k) p.0 (omega (arith, h.offset)) (omega arith) h.offset ss (decimal p.1 ++ (10 ∷ t))
-    ∙ field_read (field.Finish p.0) i m (suc k) p.1 (omega (arith, h.end)) (omega arith) h.end ss t
+    ∙ point_read ss i m (suc k) (decimal p.offset ++ (32 ∷ (decimal p.end ++ (10 ∷ t))))
+    ∙ field_read field.Offset i m (suc k) p.offset (omega (arith, h.offset)) (omega arith) h.offset ss (decimal p.end ++ (10 ∷ t))
+    ∙ field_read (field.Finish p.offset) i m (suc k) p.end (omega (arith, h.end)) (omega arith) h.end ss t
     ∙ ap (λ (w : ℕ). walk (ss ++ point_step p ∷ []) (after_point i m w) t) less
 
-all_points : (ps : List (ℕ × ℕ)) (ss : List LineStep) (i m : ℕ) (t : List ℕ) → All IsPoint ps
+all_points : (ps : List Point) (ss : List LineStep) (i m : ℕ) (t : List ℕ) → All IsPoint ps
     → walk ss (after_point i m (length ps)) (flat_map point_text ps ++ t) ≡ walk (ss ++ map point_step ps) (after_entry i m) t
 all_points [] ss i m t h = ap (λ (l : List LineStep). walk l (after_entry i m) t) (sym (append-nil ss))
 all_points (p ∷ ps) ss i m t h =

@@ -104,8 +104,8 @@ next_at Over i m k x = bad
 next_at Nothing i m k x = bad
 
 -- the place after one more byte, and what the byte says
-abbrev pub next : Place → ℕ → Place × LineStep
-next p x = next_at p.expected p.task p.after p.points x
+abbrev pub next_place : Place → ℕ → Place × LineStep
+next_place p x = next_at p.expected p.task p.after p.points x
 
 -- a point's word comes only where a point is still to come
 abbrev pub IsRightWord : Word → ℕ → Type 0
@@ -149,7 +149,7 @@ is_over_at _ = false
 -- how far a text was read, one byte on
 abbrev pub after_byte : Progress → ℕ → Progress
 after_byte l x =
-    let p = (next l.place x).0 in
+    let p = (next_place l.place x).0 in
     record { place = p; line = (if x == 10 && is_good_at p.expected then l.line + 1 else l.line) }
 
 -- how far a text was read, more bytes on
@@ -168,7 +168,7 @@ pub record StandsFor (l : Progress) (bytes : List ℕ) : Type 0 where
 -- what the lines say that end in the bytes, behind what was said before, and the place after them
 abbrev pub walk : List LineStep → Place → List ℕ → List LineStep × Place
 walk ss p [] = (ss, p)
-walk ss p (x ∷ t) = walk (if x == 10 then ss ++ (next p x).1 ∷ [] else ss) (next p x).0 t
+walk ss p (x ∷ t) = walk (if x == 10 then ss ++ (next_place p x).1 ∷ [] else ss) (next_place p x).0 t
 
 -- a line that the place does not pass, so that 64 bits hold it: each byte of a word is counted as if it ended a line
 abbrev pub most_word : Word → ℕ → ℕ → ℕ → ℕ

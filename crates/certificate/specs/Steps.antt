@@ -2,12 +2,13 @@
 use Rattle.std.specs.Prelude.{ℕ, suc, List, [], ◌∷◌, ◌++◌, length, map}
 use Rattle.certificate.specs.declared.cert.Entry.{Entry}
 use Rattle.certificate.specs.declared.cert.Cert.{Cert}
+use Rattle.certificate.specs.declared.cert.Point.{Point}
 use Rattle.certificate.specs.declared.step.LineStep.{LineStep}
 use Rattle.certificate.specs.declared.step.LineStep.TheVariants as says
 
 -- what the line of a point says
-abbrev pub point_step : ℕ × ℕ → LineStep
-point_step p = says.Point p.0 p.1
+abbrev pub point_step : Point → LineStep
+point_step p = says.Point p.offset p.end
 
 -- what the lines of these entries say, the first of which is the i-th of the certificate
 abbrev pub entries_steps : ℕ → List Entry → List LineStep

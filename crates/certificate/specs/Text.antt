@@ -4,10 +4,14 @@ use Rattle.std.specs.List.{flat_map}
 use Rattle.poet_io.specs.Texts.{Format}
 use Rattle.certificate.specs.declared.cert.Entry.{Entry}
 use Rattle.certificate.specs.declared.cert.Cert.{Cert}
+use Rattle.certificate.specs.declared.cert.Point.{Point}
+
+abbrev pub point_of : ℕ → ℕ → Point
+point_of offset end = record { offset = offset; end = end }
 
 -- the line of a point: p OFFSET END
-abbrev pub point_text : ℕ × ℕ → List ℕ
-point_text p = codes "p " ++ (decimal p.0 ++ (codes " " ++ (decimal p.1 ++ codes "\n")))
+abbrev pub point_text : Point → List ℕ
+point_text p = codes "p " ++ (decimal p.offset ++ (codes " " ++ (decimal p.end ++ codes "\n")))
 
 -- the first line of the i-th entry: task I WINDOW BOUND COUNT
 abbrev pub entry_line : ℕ → Entry → List ℕ
@@ -29,9 +33,9 @@ abbrev pub limit : ℕ
 limit = 1000000000
 
 -- a point's numbers are in range
-pub record IsPoint (p : ℕ × ℕ) : Type 0 where
-  pub offset : p.0 ≤ limit
-  pub end : p.1 ≤ limit
+pub record IsPoint (p : Point) : Type 0 where
+  pub offset : p.offset ≤ limit
+  pub end : p.end ≤ limit
 
 -- an entry's numbers are in range, and it has 1 to 1000000 points
 pub record IsEntry (e : Entry) : Type 0 where

@@ -2,6 +2,13 @@
 
 use lists::Items;
 
+/// An offset at which a bound is checked, and its end, in ticks from the window's start.
+#[derive(Clone, Copy, Debug, PartialEq, Eq)]
+pub struct Point {
+    pub offset: u64,
+    pub end: u64,
+}
+
 /// What a certificate claims of one task.
 #[derive(Debug, PartialEq, Drop)]
 pub struct Entry {
@@ -9,9 +16,7 @@ pub struct Entry {
     pub window: u64,
     /// The response-time bound, in ticks.
     pub bound: u64,
-    /// The offsets at which the bound is checked, each with its end. Both are in ticks from the
-    /// window's start.
-    pub points: Items<(u64, u64)>,
+    pub points: Items<Point>,
 }
 
 /// A certificate: an entry for each task, in the tasks' order.

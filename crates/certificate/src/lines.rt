@@ -4,7 +4,7 @@ ghost use Rattle.std.specs.Prelude.{◌≡◌, ◌<◌, ◌↔◌, ◌==◌, ◌
 ghost use Rattle.poet_io.specs.Texts.{Parses, BeginsText, IsRefusedLine, newlines};
 ghost use Rattle.certificate.specs.Text.{cert_format};
 ghost use Rattle.certificate.specs.Steps.{steps_of};
-ghost use Rattle.certificate.specs.Machine.{StandsFor, after_byte, next, is_good_at};
+ghost use Rattle.certificate.specs.Machine.{StandsFor, after_byte, next_place, is_good_at};
 ghost use Rattle.certificate.specs.declared.cert.Cert.{Cert};
 
 use crate::place::Place;
@@ -56,7 +56,7 @@ impl Lines {
 
     fn advance(&mut self, byte: u8) -> LineStep
         ensures progress { self.new ≡ after_byte self.old byte }
-        ensures step { result ≡ (next self.old.place byte).1 }
+        ensures step { result ≡ (next_place self.old.place byte).1 }
     {
         let (place, step) = self.place.next(byte);
         let line = next_line(self.line, byte, place);
@@ -84,7 +84,8 @@ impl Lines {
 
     /// Whether the bytes so far are a certificate's text.
     pub fn is_over(&self) -> bool
-        ensures { (b : List ℕ) → StandsFor self.now b → (IsTrue result ↔ ((c : Cert) × Parses cert_format b c)) }
+        ensures { (b : List ℕ) → StandsFor self.now b →
+            (IsTrue result ↔ ((c : Cert) × Parses cert_format b c)) }
     {
         self.place.is_over()
     }

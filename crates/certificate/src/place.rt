@@ -4,7 +4,7 @@
 //! place needs no memory, and one byte leads from place to place.
 
 ghost use Rattle.std.specs.Prelude.{◌≡◌, ◌<◌, ◌≤◌, ◌+◌, ℕ, length, slice_index};
-ghost use Rattle.certificate.specs.Machine.{word_text, after_word, word_step, least, greatest, ender, at_place, bad, after_point, after_number, in_word, first_digit, more_digits, next, start, is_good_at, is_over_at, IsRightField, IsPlace};
+ghost use Rattle.certificate.specs.Machine.{word_text, after_word, word_step, least, greatest, ender, at_place, bad, after_point, after_number, in_word, first_digit, more_digits, next_place, start, is_good_at, is_over_at, IsRightField, IsPlace};
 ghost use Rattle.certificate.specs.declared.step.LineStep.TheVariants.{More};
 
 use crate::step::LineStep;
@@ -310,7 +310,7 @@ impl Place {
     /// The place after one more byte, and what it says.
     pub fn next(self, byte: u8) -> (Place, LineStep)
         requires { IsPlace self }
-        ensures { result ≡ next self byte }
+        ensures { result ≡ next_place self byte }
     {
         match self.expected {
             Expected::Rest(word, at) => self.in_word(word, at, byte),

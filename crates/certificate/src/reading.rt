@@ -5,7 +5,7 @@ ghost use Rattle.poet_io.specs.Texts.{Parses, IsReading, Gives};
 ghost use Rattle.certificate.specs.Text.{cert_format};
 ghost use Rattle.certificate.specs.Parsing.{add_point, add_step, cert_of_text};
 
-use crate::cert::{Cert, Entry};
+use crate::cert::{Cert, Entry, Point};
 use crate::lines::Lines;
 use crate::step::LineStep;
 use lists::Items;
@@ -13,8 +13,8 @@ use poet_io::TextRefusal;
 use std::alloc::{AllocError, Global};
 
 /// Appends a point to the last entry. `Items` gives its `Vec` back, so no point is copied.
-fn add_point(entries: &mut Vec<Entry>, offset: u64, end: u64) -> Result<(), AllocError>
-    ensures { OnOk result (entries.new.items ≡ add_point entries.old.items (offset, end)) }
+fn add_point(entries: &mut Vec<Entry>, point: Point) -> Result<(), AllocError>
+    ensures { OnOk result (entries.new.items ≡ add_point entries.old.items point) }
 {
     let Some(
         Entry {
@@ -27,7 +27,7 @@ fn add_point(entries: &mut Vec<Entry>, offset: u64, end: u64) -> Result<(), Allo
         return Ok(());
     };
     let mut points = points.into_vec();
-    points.push((offset, end))?;
+    points.push(point)?;
     entries.push(Entry {
         window,
         bound,
@@ -49,7 +49,7 @@ fn add_step(alloc: Global, entries: &mut Vec<Entry>, step: LineStep) -> Result<(
             })?;
             Ok(())
         }
-        LineStep::Point { offset, end } => add_point(entries, offset, end),
+        LineStep::Point { offset, end } => add_point(entries, Point { offset, end }),
         _ => Ok(()),
     }
 }
@@ -60,7 +60,8 @@ fn add_step(alloc: Global, entries: &mut Vec<Entry>, step: LineStep) -> Result<(
 /// wrong or missing.
 pub fn read_cert(alloc: Global, bytes: &[u8]) -> Result<Cert, TextRefusal>
     ensures found { IfOk result (λ cert. Parses cert_format bytes.now cert) }
-    ensures refused { IfErr result (λ e. e ≢ TextRefusal.Memory → IsReading cert_format bytes.now (Err e)) }
+    ensures refused { IfErr result (λ e. e ≢ TextRefusal.Memory →
+        IsReading cert_format bytes.now (Err e)) }
     ensures gives { Gives result (cert_of_text bytes.now) }
 {
     let mut lines = Lines::new();

@@ -4,19 +4,19 @@ ghost use Rattle.std.specs.Prelude.{◌≡◌, ◌++◌, OnOk, IfOk};
 ghost use Rattle.std.specs.List.{flat_map};
 ghost use Rattle.certificate.specs.Text.{point_text, entry_line, text_of, IsWithinGrammar};
 
-use crate::cert::{Cert, Entry};
+use crate::cert::{Cert, Entry, Point};
 use poet_io::push_field;
 use std::alloc::{AllocError, Global};
 
-fn push_point(out: &mut Vec<u8>, point: (u64, u64)) -> Result<(), AllocError>
+fn push_point(out: &mut Vec<u8>, point: Point) -> Result<(), AllocError>
     ensures { OnOk result (out.new.items ≡ out.old.items ++ point_text point) }
 {
     out.extend_from_slice(b"p ")?;
-    push_field(out, point.0, b' ')?;
-    push_field(out, point.1, b'\n')
+    push_field(out, point.offset, b' ')?;
+    push_field(out, point.end, b'\n')
 }
 
-fn push_points(out: &mut Vec<u8>, points: &[(u64, u64)]) -> Result<(), AllocError>
+fn push_points(out: &mut Vec<u8>, points: &[Point]) -> Result<(), AllocError>
     ensures { OnOk result (out.new.items ≡ out.old.items ++ flat_map point_text points.now) }
 {
     for point in points {

@@ -1,2 +1,3 @@
 pub mod FailedFacts
 pub mod MeetFacts
+pub mod Worked

@@ -1,4 +1,4 @@
-use Rattle.std.proofs.Common.{◌≡◌, ℕ, ◌-◌, nat_le, nat_lt, Bool, true, false, Option, Some, None, List, [], ◌∷◌, length, refl, ap}
+use Rattle.std.proofs.Common.{◌≡◌, ℕ, ◌-◌, nat_le, nat_lt, Bool, true, false, Option, Some, None, List, [], ◌∷◌, length, refl, ap, arith}
 use Rattle.std.proofs.lemmas.Bool.{and_parts, and_from, eqb-true, eq-eqb, leb-true, le-leb, ltb-true, lt-ltb}
 use Rattle.lists.proofs.FirstFacts.{must_holds, must_from, first_parts, first_from, none_below, none_from}
 use Rattle.task_sheet.specs.SheetParts.{SheetParts}
@@ -8,10 +8,15 @@ use Rattle.demand.specs.Demand.{window_need_of}
 use Rattle.search_space.proofs.PointFacts.{same_means, same_true}
 use Rattle.certificate.specs.declared.cert.Entry.{Entry}
 use Rattle.certificate.specs.declared.cert.Cert.{Cert}
+use Rattle.certificate.specs.declared.cert.Point.{Point}
 use Rattle.demand.specs.Meeting.{IsWindow, MeetsEnd, MeetsBound, ComesNext, KeepsGap, PointMeets, PointsMeet}
 use Rattle.conditions.specs.declared.failed.Cond.{Cond}
 use Rattle.conditions.specs.Conditions.{entry_at, is_window, is_in_time, comes_next, ends_within, meets_end, rest_within, gap_failed_of, point_failed_of, points_failed_of, named, task_failed_of, failed_of}
-use Rattle.conditions.specs.Meets.{IsInTime, TaskMeets, CertMeets}
+use Rattle.conditions.specs.Meets.{IsInTime, pairs_of, TaskMeets, CertMeets}
+
+pub pairs_count : (points : List Point) → length (pairs_of points) ≡ length points
+pairs_count [] = refl
+pairs_count (q ∷ points) = omega (arith, pairs_count points)
 
 module _ (p : PolicyMeaning) (m : CutMeaning) (sbf : ℕ → ℕ) (sheet : SheetParts) (i : ℕ) where
   pub gap_means : (before : Option ℕ) (q : ℕ) → gap_failed_of p sheet i before q ≡ None → KeepsGap p sheet i before q
@@ -69,15 +74,15 @@ module _ (p : PolicyMeaning) (m : CutMeaning) (sbf : ℕ → ℕ) (sheet : Sheet
       (first_from _ _ (must_from _ _ (le-leb _ _ meets.within.end))
       (first_from _ _ (must_from _ _ (end_true a x meets.end)) (must_from _ _ (le-leb _ _ meets.within.enough)))))
 
-  pub points_mean : (window bound : ℕ) (before : Option ℕ) (qs : List (ℕ × ℕ)) → points_failed_of p m sbf sheet i window bound before qs ≡ None → PointsMeet p m sbf sheet i window bound before qs
+  pub points_mean : (window bound : ℕ) (before : Option ℕ) (qs : List Point) → points_failed_of p m sbf sheet i window bound before qs ≡ None → PointsMeet p m sbf sheet i window bound before (pairs_of qs)
   points_mean window bound before [] h = gap_means before window h
   points_mean window bound before (q ∷ qs) h =
       let parts = first_parts _ _ h in
-      (point_means window bound before q.0 q.1 parts.0, points_mean window bound (Some q.0) qs parts.1)
+      (point_means window bound before q.offset q.end parts.0, points_mean window bound (Some q.offset) qs parts.1)
 
-  pub points_none : (window bound : ℕ) (before : Option ℕ) (qs : List (ℕ × ℕ)) → PointsMeet p m sbf sheet i window bound before qs → points_failed_of p m sbf sheet i window bound before qs ≡ None
+  pub points_none : (window bound : ℕ) (before : Option ℕ) (qs : List Point) → PointsMeet p m sbf sheet i window bound before (pairs_of qs) → points_failed_of p m sbf sheet i window bound before qs ≡ None
   points_none window bound before [] meet = gap_none before window meet
-  points_none window bound before (q ∷ qs) meet = first_from _ _ (point_none window bound before q.0 q.1 meet.0) (points_none window bound (Some q.0) qs meet.1)
+  points_none window bound before (q ∷ qs) meet = first_from _ _ (point_none window bound before q.offset q.end meet.0) (points_none window bound (Some q.offset) qs meet.1)
 
   time_means : (deadlines : Bool) (bound : ℕ) → is_in_time sheet deadlines i bound ≡ true → IsInTime sheet deadlines i bound
   time_means true bound h = leb-true _ _ h

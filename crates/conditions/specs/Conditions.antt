@@ -9,6 +9,7 @@ use Rattle.demand.specs.Demand.{rest_of, need_of, window_need_of}
 use Rattle.search_space.specs.Points.{same_at}
 use Rattle.certificate.specs.declared.cert.Entry.{Entry}
 use Rattle.certificate.specs.declared.cert.Cert.{Cert}
+use Rattle.certificate.specs.declared.cert.Point.{Point}
 use Rattle.conditions.specs.declared.failed.Cond.{Cond}
 use Rattle.conditions.specs.declared.failed.Cond.TheVariants.{K1, K2, K3, K4, K5, K6, K7, K8, K9}
 use Rattle.conditions.specs.declared.failed.Failed.{Failed}
@@ -84,10 +85,10 @@ point_failed_of p m sbf sheet i window bound before a x =
     (must (rest_within p m sbf sheet i a x bound) (of_point i a K8)))))
 
 -- the points that follow the offset before, and the gap from the last of them to the window's end
-abbrev pub points_failed_of : PolicyMeaning → CutMeaning → (ℕ → ℕ) → SheetParts → ℕ → ℕ → ℕ → Option ℕ → List (ℕ × ℕ) → Option Failed
+abbrev pub points_failed_of : PolicyMeaning → CutMeaning → (ℕ → ℕ) → SheetParts → ℕ → ℕ → ℕ → Option ℕ → List Point → Option Failed
 points_failed_of p m sbf sheet i window bound before [] = gap_failed_of p sheet i before window
 points_failed_of p m sbf sheet i window bound before (q ∷ qs) =
-    first_of (point_failed_of p m sbf sheet i window bound before q.0 q.1) (points_failed_of p m sbf sheet i window bound (Some q.0) qs)
+    first_of (point_failed_of p m sbf sheet i window bound before q.offset q.end) (points_failed_of p m sbf sheet i window bound (Some q.offset) qs)
 
 -- a condition of the entry as a whole, with its task
 abbrev pub named : ℕ → Option Cond → Option Failed

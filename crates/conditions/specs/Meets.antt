@@ -1,10 +1,11 @@
-use Rattle.std.specs.Prelude.{◌≡◌, ℕ, ◌<◌, ◌≤◌, ◌↔◌, Bool, true, false, None, length}
+use Rattle.std.specs.Prelude.{◌≡◌, ℕ, ◌<◌, ◌≤◌, ◌↔◌, Bool, true, false, None, List, map, length}
 use Rattle.task_sheet.specs.SheetParts.{SheetParts}
 use Rattle.task_sheet.specs.Sheets.{task_at}
 use Rattle.policy.specs.PolicyMeaning.{PolicyMeaning}
 use Rattle.preemption.specs.CutMeaning.{CutMeaning}
 use Rattle.certificate.specs.declared.cert.Entry.{Entry}
 use Rattle.certificate.specs.declared.cert.Cert.{Cert}
+use Rattle.certificate.specs.declared.cert.Point.{Point}
 use Rattle.demand.specs.Meeting.{CoversJitter, IsWindow, PointsMeet}
 use Rattle.conditions.specs.Conditions.{entry_at, failed_of}
 
@@ -13,12 +14,16 @@ abbrev pub IsInTime : SheetParts → Bool → ℕ → ℕ → Type 0
 IsInTime sheet false i bound = Unit {0}
 IsInTime sheet true i bound = bound ≤ (task_at sheet i).deadline
 
+-- the offset and the end of each point
+abbrev pub pairs_of : List Point → List (ℕ × ℕ)
+pairs_of points = map (λ q. (q.offset, q.end)) points
+
 -- an entry meets K2 to K9 for task i
 pub record TaskMeets (p : PolicyMeaning) (m : CutMeaning) (sbf : ℕ → ℕ) (sheet : SheetParts) (deadlines : Bool) (i : ℕ) (e : Entry) : Type 0 where
   pub covers : CoversJitter sheet i e.bound
   pub window : IsWindow p m sbf sheet i e.window
   pub in_time : IsInTime sheet deadlines i e.bound
-  pub points : PointsMeet p m sbf sheet i e.window e.bound None e.points
+  pub points : PointsMeet p m sbf sheet i e.window e.bound None (pairs_of e.points)
 
 -- a certificate meets K1, and each of its entries the conditions of its task
 pub record CertMeets (p : PolicyMeaning) (m : CutMeaning) (sbf : ℕ → ℕ) (sheet : SheetParts) (deadlines : Bool) (cert : Cert) : Type 0 where

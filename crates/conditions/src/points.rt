@@ -6,6 +6,7 @@ ghost use Rattle.certificate.specs.Text.{IsPoint};
 ghost use Rattle.conditions.specs.Conditions.{point_failed_of, points_failed_of};
 
 use crate::failed::{Cond, Failed};
+use certificate::Point;
 use demand::{need, rest};
 use policy::Policy;
 use preemption::Preemption;
@@ -79,7 +80,7 @@ pub fn points_failed<P: Policy, M: Preemption, S: Supply>(
     i: u32,
     window: u64,
     bound: u64,
-    points: &[(u64, u64)],
+    points: &[Point],
 ) -> Option<Failed>
     requires task { i < length sheet.now.tasks }
     requires window { window ≤ 1000000000 }
@@ -91,11 +92,18 @@ pub fn points_failed<P: Policy, M: Preemption, S: Supply>(
     let mut before = None;
     for point in points {
         if let Some(failed) = point_failed::<P, M, S>(
-            sheet, supply, i, window, bound, before, point.0, point.1,
+            sheet,
+            supply,
+            i,
+            window,
+            bound,
+            before,
+            point.offset,
+            point.end,
         ) {
             return Some(failed);
         }
-        before = Some(point.0);
+        before = Some(point.offset);
     }
     if let Some(p) = before
         && gap_failed::<P>(sheet, i, p, window)

@@ -1,3 +1,4 @@
 pub mod DemandFacts
 pub mod Gaps
 pub mod MeetingFacts
+pub mod Worked

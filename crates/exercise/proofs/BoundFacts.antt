@@ -15,7 +15,8 @@ use Rattle.abstract_rta.specs.Bounds.{PointsBound}
 use Rattle.certificate.specs.declared.cert.Entry.{Entry}
 use Rattle.certificate.specs.Text.{IsEntry}
 use Rattle.conditions.specs.Conditions.{no_entry, entry_at}
-use Rattle.conditions.proofs.MeetFacts.{cert_means}
+use Rattle.conditions.specs.Meets.{pairs_of}
+use Rattle.conditions.proofs.MeetFacts.{pairs_count, cert_means}
 use Rattle.audit.specs.declared.verdict.Seen.{Seen}
 use Rattle.audit.specs.Responses.{since, done_before, response_of, is_of, seen_among, seen_of, seen_below}
 use Rattle.exercise.specs.GeneratedSheet.{generated_sheet}
@@ -48,7 +49,9 @@ since_done test a b (suc n) done h = elim (cases_lt (a + b) n) [
 ]
 
 -- a job that is done within the bound, where the run is so long, has at most the bound as its response time
-response_most : (run : Run) (k bound : ℕ) → ((job_at run k).arrival + bound ≤ length run.ticks → IsDone run k ((job_at run k).arrival + bound)) → response_of run k ≤ bound
+response_most : (run : Run) (k bound : ℕ) →
+    ((job_at run k).arrival + bound ≤ length run.ticks → IsDone run k ((job_at run k).arrival + bound)) →
+    response_of run k ≤ bound
 unfolding done_before
 response_most run k bound h = elim (cases_lt (length run.ticks) ((job_at run k).arrival + bound)) [
   | inl c ↦ since_early (is_done run k) (job_at run k).arrival bound (length run.ticks + 1) (omega arith)
@@ -76,7 +79,9 @@ greatest_one f d (x ∷ xs) zero h = omega arith
 greatest_one f d (x ∷ xs) (suc i) h = omega (arith, greatest_one f d xs i (omega arith))
 
 -- every response time of the first n tasks is within the limit
-seen_most : (run : Run) (limit n : ℕ) → ((o : ℕ) → o < n → (k : ℕ) → k < length run.jobs → (job_at run k).task ≡ o → response_of run k ≤ limit) → greatest_by (λ s. s.worst) (seen_below run n) ≤ limit
+seen_most : (run : Run) (limit n : ℕ) →
+    ((o : ℕ) → o < n → (k : ℕ) → k < length run.jobs → (job_at run k).task ≡ o → response_of run k ≤ limit) →
+    greatest_by (λ s. s.worst) (seen_below run n) ≤ limit
 seen_most run limit zero h = omega arith
 seen_most run limit (suc n) h =
     omega (
@@ -94,7 +99,9 @@ module _ (seed tasks : ℕ) (law : PointsBound edf_meaning per_task_meaning (λ 
       let in_range : o < length sheet.tasks = omega (arith, sheet_count seed tasks) in
       let task = meets.tasks o in_range in
       let fits : IsEntry (entry_at holds.cert o) = All-get_or IsEntry holds.cert.entries o no_entry (omega (arith, meets.count)) holds.within.entries in
-      law sheet (sheet_valid seed tasks some few) (λ i l. refl) o (entry_at holds.cert o).window (entry_at holds.cert o).bound (entry_at holds.cert o).points in_range task.window fits.some task.points
+      let e : Entry = entry_at holds.cert o in
+      let listed : 1 ≤ length (pairs_of e.points) = omega (arith, fits.some, pairs_count e.points) in
+      law sheet (sheet_valid seed tasks some few) (λ i l. refl) o e.window e.bound (pairs_of e.points) in_range task.covers task.window listed task.points
 
   task_below : (o : ℕ) → o < tasks → (entry_at holds.cert o).bound ≤ greatest_by (λ e. e.bound) holds.cert.entries
   task_below o b =

@@ -16,11 +16,18 @@ points_front : (entries : List Entry) (n : ℕ) → n ≤ length entries → poi
 points_front entries zero l = refl
 points_front entries (suc n) l =
     let more : take (suc n) entries ≡ take n entries ++ nth_entry entries n ∷ [] = take-suc entries n no_entry (omega arith) in
-    omega (arith, points_front entries n (omega arith), ap (λ (xs : List Entry). sum_by (λ e. length e.points) xs) more, sum_by_push (λ (e : Entry). length e.points) (take n entries) (nth_entry entries n))
+    omega (
+      arith,
+      points_front entries n (omega arith),
+      ap (λ (xs : List Entry). sum_by (λ e. length e.points) xs) more,
+      sum_by_push (λ (e : Entry). length e.points) (take n entries) (nth_entry entries n),
+    )
 
 -- the points of all entries, added up
 pub points_all : (entries : List Entry) → points_to entries (length entries) ≡ sum_by (λ e. length e.points) entries
-points_all entries = points_front entries (length entries) (omega arith) ∙ ap (λ (xs : List Entry). sum_by (λ e. length e.points) xs) (take_all (length entries) entries (omega arith))
+points_all entries =
+    points_front entries (length entries) (omega arith) ∙ ap (λ (xs : List Entry). sum_by (λ e. length e.points) xs)
+    (take_all (length entries) entries (omega arith))
 
 counted_most : (test : ℕ → Bool) (n : ℕ) → count_below test n ≤ n
 counted_most test zero = omega arith

@@ -50,7 +50,15 @@ unfolding arrivals_of
 jobs_most seed n t run some ok =
     let tasks : (k : ℕ) → k < length run.jobs → (job_at run k).task < n = λ k b. omega (arith, (ok.complies.valid.jobs k b).task, sheet_count seed n) in
     let long : 0 + t - 0 ≡ t = omega arith in
-    let each = all_by_task (λ o. 1) (λ o. t) 0 n run tasks (λ o. t / (2 * n) + 1) (λ o b. omega (arith, ok.complies.curves o 0 (0 + t) (omega (arith, sheet_count seed n)) (omega arith), ap (alpha_of (task_at (generated_sheet seed n) o).curve) long, curve_most seed n o t some b)) in
+    let each =
+    all_by_task (λ o. 1) (λ o. t) 0 n run tasks (λ o. t / (2 * n) + 1)
+    (λ o b. omega (
+      arith,
+      ok.complies.curves o 0 (0 + t) (omega (arith, sheet_count seed n)) (omega arith),
+      ap (alpha_of (task_at (generated_sheet seed n) o).curve) long,
+      curve_most seed n o t some b,
+    ))
+    in
     omega (
       arith,
       each,
@@ -73,7 +81,8 @@ pub segments_most : (seed n t : ℕ) (run : Run) → IsEarlyRun seed n t run →
 segments_most seed n t run ok = sum_by_most (λ (j : Job). length j.segs) no_job 50 run.jobs (job_few seed n t run ok)
 
 -- the simulated run of t ticks has the jobs of t ticks
-pub run_early : (seed n t : ℕ) (mode : Mode) → 1 ≤ n → n ≤ 64 → IsEarlyRun seed n t (simulated_run (world_of edf_meaning per_task_meaning (λ d. d) (generated_sheet seed n) mode) t)
+pub run_early : (seed n t : ℕ) (mode : Mode) → 1 ≤ n → n ≤ 64 →
+    IsEarlyRun seed n t (simulated_run (world_of edf_meaning per_task_meaning (λ d. d) (generated_sheet seed n) mode) t)
 unfolding simulated_run
 run_early seed n t mode some few =
     let valid : IsValidSheet (generated_sheet seed n) = sheet_valid seed n some few in

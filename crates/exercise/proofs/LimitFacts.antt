@@ -16,7 +16,8 @@ use Rattle.exercise.proofs.JobFacts.{IsEarlyRun, jobs_few, segments_most, run_ea
 pub none_passed : (jobs : List Job) → length jobs ≤ 20000 → segments_of jobs ≤ 1000000 → refused_by jobs ≡ None
 unfolding refused_by
 none_passed jobs few_jobs few_segments = none_from (passed_at jobs) (length jobs) (λ k b.
-    first_from _ _ (must_from _ _ (lt-ltb k 20000 (omega arith))) (must_from _ _ (le-leb (segments_of (take (k + 1) jobs)) 1000000 (omega (arith, sum_by-take-le (λ (j : Job). length j.segs) jobs (k + 1))))))
+    first_from _ _ (must_from _ _ (lt-ltb k 20000 (omega arith)))
+    (must_from _ _ (le-leb (segments_of (take (k + 1) jobs)) 1000000 (omega (arith, sum_by-take-le (λ (j : Job). length j.segs) jobs (k + 1))))))
 
 pub run_is_early : (seed tasks : ℕ) → 1 ≤ tasks → tasks ≤ 64 → IsEarlyRun seed tasks 10000 (dense_run_of seed tasks)
 unfolding dense_run_of

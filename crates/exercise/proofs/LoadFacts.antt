@@ -1,5 +1,5 @@
 -- The load of a sheet that a seed makes is at most one half.
-use Rattle.std.proofs.Common.{◌≡◌, ℕ, ◌+◌, ◌*◌, ◌/◌, ◌%◌, ◌<◌, ◌≤◌, ap, inl, inr, arith}
+use Rattle.std.proofs.Common.{◌≡◌, ℕ, add-zero, ◌+◌, ◌*◌, ◌/◌, ◌%◌, ◌<◌, ◌≤◌, ap, inl, inr, arith}
 use Rattle.std.proofs.lemmas.Bool.{cases_lt, le-leb, lt-leb}
 use Rattle.std.proofs.lemmas.Nat.{le-div}
 use Rattle.std.proofs.Math.Nat.{mul-le-mul_left, mul-le-mul_right, mul-div-le}
@@ -30,6 +30,11 @@ pub task_curve : (seed n o : ℕ) → o < n → (task_at (generated_sheet seed n
 unfolding generated_task
 task_curve seed n o l = ap (λ (t : Task). t.curve) (sheet_task seed n o l)
 
+-- every job is released at its arrival
+pub task_jitter : (seed n o : ℕ) → o < n → (task_at (generated_sheet seed n) o).jitter ≡ 0
+unfolding generated_task
+task_jitter seed n o l = ap (λ (t : Task). t.jitter) (sheet_task seed n o l)
+
 regroup : (a b c : ℕ) → a * b * c ≡ c * a * b
 regroup a b c = omega arith
 
@@ -48,5 +53,6 @@ asks seed n o l some =
     omega (arith, share n (scale_of seed o) (cost_of seed o) (l / period) l some (cost_high seed o) whole)
 
 -- what a task asks for in l ticks is at most its part of them, and one job
-pub asks_most : (seed n o l : ℕ) → 1 ≤ n → o < n → (task_at (generated_sheet seed n) o).cost * alpha_of (task_at (generated_sheet seed n) o).curve l ≤ l / (2 * n) + cost_of seed o
-asks_most seed n o l some b = rw (task_cost seed n o b, task_curve seed n o b) (asks seed n o l some)
+pub asks_most : (seed n o l : ℕ) → 1 ≤ n → o < n →
+    (task_at (generated_sheet seed n) o).cost * alpha_of (task_at (generated_sheet seed n) o).curve (l + (task_at (generated_sheet seed n) o).jitter) ≤ l / (2 * n) + cost_of seed o
+asks_most seed n o l some b = rw (task_cost seed n o b, task_curve seed n o b, task_jitter seed n o b, add-zero) (asks seed n o l some)

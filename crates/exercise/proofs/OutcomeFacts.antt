@@ -37,18 +37,23 @@ unfolding generated_sheet
 whole seed tasks sheet e = sym (ap (λ (s : SheetParts). sbf_of s.supply) e)
 
 -- the analysis is not refused
-pub never_refused : (seed tasks : ℕ) (sheet : SheetParts) (refusal : AnalyseRefusal) → sheet ≡ generated_sheet seed tasks → Succeeds seed tasks → best_of edf_meaning per_task_meaning (λ d. d) sheet 1000000 ≡ Err refusal → ⊥
+pub never_refused : (seed tasks : ℕ) (sheet : SheetParts) (refusal : AnalyseRefusal) →
+    sheet ≡ generated_sheet seed tasks → Succeeds seed tasks →
+    best_of edf_meaning per_task_meaning (λ d. d) sheet 1000000 ≡ Err refusal → ⊥
 unfolding best_cert_of
 never_refused seed tasks sheet refusal e law h =
     let other : best_of edf_meaning per_task_meaning (λ d. d) (generated_sheet seed tasks) 1000000 ≡ Err refusal = rw e at h in
     let here : best_of edf_meaning per_task_meaning (λ d. d) (generated_sheet seed tasks) 1000000 ≡ Ok law.cert = law.best in
     absurd (cc)
 
-pub cert_is : (seed tasks : ℕ) (sheet : SheetParts) (cert : Cert) → sheet ≡ generated_sheet seed tasks → best_of edf_meaning per_task_meaning (λ d. d) sheet 1000000 ≡ Ok cert → best_cert_of seed tasks ≡ Ok cert
+pub cert_is : (seed tasks : ℕ) (sheet : SheetParts) (cert : Cert) → sheet ≡ generated_sheet seed tasks →
+    best_of edf_meaning per_task_meaning (λ d. d) sheet 1000000 ≡ Ok cert → best_cert_of seed tasks ≡ Ok cert
 unfolding best_cert_of
 cert_is seed tasks sheet cert e h = rw e at h
 
-simulation_is : (seed tasks : ℕ) (sheet : SheetParts) (r : Result Run SimRefusal) → sheet ≡ generated_sheet seed tasks → Succeeds seed tasks → simulation_of (world_of edf_meaning per_task_meaning (λ d. d) sheet Dense) 10000 ≡ r → Ok (dense_run_of seed tasks) ≡ r
+simulation_is : (seed tasks : ℕ) (sheet : SheetParts) (r : Result Run SimRefusal) → sheet ≡ generated_sheet seed tasks →
+    Succeeds seed tasks → simulation_of (world_of edf_meaning per_task_meaning (λ d. d) sheet Dense) 10000 ≡ r →
+    Ok (dense_run_of seed tasks) ≡ r
 unfolding dense_run_of
 simulation_is seed tasks sheet r e law h =
     let run : Run = simulated_run (world_of edf_meaning per_task_meaning (λ d. d) (generated_sheet seed tasks) Dense) 10000 in
@@ -57,10 +62,14 @@ simulation_is seed tasks sheet r e law h =
     sym (ap (run_or run) none) ∙ here
 
 -- nor is the simulation
-pub never_stopped : (seed tasks : ℕ) (sheet : SheetParts) (refusal : SimRefusal) → sheet ≡ generated_sheet seed tasks → Succeeds seed tasks → simulation_of (world_of edf_meaning per_task_meaning (λ d. d) sheet Dense) 10000 ≡ Err refusal → ⊥
+pub never_stopped : (seed tasks : ℕ) (sheet : SheetParts) (refusal : SimRefusal) → sheet ≡ generated_sheet seed tasks →
+    Succeeds seed tasks →
+    simulation_of (world_of edf_meaning per_task_meaning (λ d. d) sheet Dense) 10000 ≡ Err refusal → ⊥
 never_stopped seed tasks sheet refusal e law h = let both = simulation_is seed tasks sheet (Err refusal) e law h in absurd (cc)
 
-pub run_is : (seed tasks : ℕ) (sheet : SheetParts) (run : Run) → sheet ≡ generated_sheet seed tasks → Succeeds seed tasks → simulation_of (world_of edf_meaning per_task_meaning (λ d. d) sheet Dense) 10000 ≡ Ok run → dense_run_of seed tasks ≡ run
+pub run_is : (seed tasks : ℕ) (sheet : SheetParts) (run : Run) → sheet ≡ generated_sheet seed tasks →
+    Succeeds seed tasks → simulation_of (world_of edf_meaning per_task_meaning (λ d. d) sheet Dense) 10000 ≡ Ok run →
+    dense_run_of seed tasks ≡ run
 run_is seed tasks sheet run e law h = let both = simulation_is seed tasks sheet (Ok run) e law h in cc
 
 -- what a verdict sees
@@ -68,26 +77,33 @@ verdict_sees : (fault : Option Fault) (all seen : List Seen) → Compliant seen 
 verdict_sees None all seen h = cc
 verdict_sees (Some fault) all seen h = absurd (cc)
 
-pub seen_is : (seed tasks : ℕ) (sheet : SheetParts) (run : Run) (fault : Option Fault) (seen : List Seen) → sheet ≡ generated_sheet seed tasks → Compliant seen ≡ verdict_by fault (seen_below run (length sheet.tasks)) → seen ≡ seen_below run tasks
+pub seen_is : (seed tasks : ℕ) (sheet : SheetParts) (run : Run) (fault : Option Fault) (seen : List Seen) →
+    sheet ≡ generated_sheet seed tasks → Compliant seen ≡ verdict_by fault (seen_below run (length sheet.tasks)) →
+    seen ≡ seen_below run tasks
 seen_is seed tasks sheet run fault seen e h =
     let count : length sheet.tasks ≡ tasks = ap (λ (s : SheetParts). length s.tasks) e ∙ sheet_count seed tasks in
     verdict_sees fault (seen_below run (length sheet.tasks)) seen h ∙ ap (seen_below run) count
 
-pub points_few : (sheet : SheetParts) (cert : Cert) (entries : List Entry) → entries ≡ cert.entries → IsBest edf_meaning per_task_meaning (λ d. d) sheet 1000000 cert → sum_by (λ e. length e.points) entries ≤ 1000000
+pub points_few : (sheet : SheetParts) (cert : Cert) (entries : List Entry) → entries ≡ cert.entries →
+    IsBest edf_meaning per_task_meaning (λ d. d) sheet 1000000 cert → sum_by (λ e. length e.points) entries ≤ 1000000
 points_few sheet cert entries e best =
     omega (arith, points_all cert.entries, ap (points_to cert.entries) best.count, best.few, ap (λ (xs : List Entry). sum_by (λ x. length x.points) xs) e)
 
-pub done_few : (tasks : ℕ) (run : Run) (seen listed : List Seen) → tasks ≤ 64 → length run.jobs ≤ 20000 → seen ≡ seen_below run tasks → listed ≡ seen → sum_by (λ s. s.done) listed ≤ 1280000
+pub done_few : (tasks : ℕ) (run : Run) (seen listed : List Seen) → tasks ≤ 64 → length run.jobs ≤ 20000 →
+    seen ≡ seen_below run tasks → listed ≡ seen → sum_by (λ s. s.done) listed ≤ 1280000
 done_few tasks run seen listed few jobs e l =
     let all : sum_by (λ s. s.done) listed ≤ tasks * length run.jobs = rw (l, e) (done_all run tasks) in
     omega (arith, mul-le-mul_left tasks jobs)
 
 -- what is counted is the exercise
-pub exercise_is : (seed tasks : ℕ) (cert : Cert) (run : Run) (seen : List Seen) (e : Exercise) → best_cert_of seed tasks ≡ Ok cert → dense_run_of seed tasks ≡ run → seen ≡ seen_below run tasks → e ≡ exercise_by cert.entries run seen → e ≡ exercise_of seed tasks
+pub exercise_is : (seed tasks : ℕ) (cert : Cert) (run : Run) (seen : List Seen) (e : Exercise) →
+    best_cert_of seed tasks ≡ Ok cert → dense_run_of seed tasks ≡ run → seen ≡ seen_below run tasks →
+    e ≡ exercise_by cert.entries run seen → e ≡ exercise_of seed tasks
 unfolding exercise_of
 exercise_is seed tasks cert run seen e best is_run is_seen counted = rw (counted, best, is_run, is_seen) refl
 
-pub exercise_holds : (seed tasks : ℕ) (sheet : SheetParts) (cert : Cert) → 1 ≤ tasks → tasks ≤ 64 → sheet ≡ generated_sheet seed tasks → best_cert_of seed tasks ≡ Ok cert → IsWithinGrammar cert →
+pub exercise_holds : (seed tasks : ℕ) (sheet : SheetParts) (cert : Cert) → 1 ≤ tasks → tasks ≤ 64 →
+    sheet ≡ generated_sheet seed tasks → best_cert_of seed tasks ≡ Ok cert → IsWithinGrammar cert →
     failed_of edf_meaning per_task_meaning (λ d. d) sheet false cert ≡ None → ExerciseHolds seed tasks
 exercise_holds seed tasks sheet cert some few e best within meets = record {
   cert = cert;

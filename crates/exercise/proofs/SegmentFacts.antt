@@ -58,7 +58,8 @@ segments_few seed n o j h =
     let high : j.cost ≤ cost_of seed o = leb-true j.cost (cost_of seed o) (and_parts (nat_le 1 j.cost) (nat_le j.cost (cost_of seed o)) parts.0).1 in
     few_by (o % 4) (cost_of seed o) j (omega (arith, cost_high seed o, scale_high seed o)) parts.1
 
-pub sum_by_most : {X : Type 0} (f : X → ℕ) (d : X) (bound : ℕ) (xs : List X) → ((k : ℕ) → k < length xs → f (get_or xs k d) ≤ bound) → sum_by f xs ≤ length xs * bound
+pub sum_by_most : {X : Type 0} (f : X → ℕ) (d : X) (bound : ℕ) (xs : List X) →
+    ((k : ℕ) → k < length xs → f (get_or xs k d) ≤ bound) → sum_by f xs ≤ length xs * bound
 sum_by_most f d bound [] h = omega arith
 sum_by_most f d bound (x ∷ xs) h =
     rw (sum_by-cons f x xs) (omega (arith, h 0 (omega arith), sum_by_most f d bound xs (λ k b. h (suc k) (omega arith))))

@@ -40,7 +40,8 @@ sheet_task seed n i l = nth_task seed n n i l
 pub generated_valid : (seed n i : ℕ) → 1 ≤ n → n ≤ 64 → i < n → IsTask (generated_task seed n i)
 unfolding generated_task
 generated_valid seed n i some few l =
-    task_valid i (period_of seed n i) (cost_of seed i) (omega arith) (omega (arith, period_low seed n i)) (omega (arith, period_high seed n i)) (cost_low seed i) (omega (arith, cost_high seed i, scale_high seed i))
+    task_valid i (period_of seed n i) (cost_of seed i) (omega arith) (omega (arith, period_low seed n i))
+    (omega (arith, period_high seed n i)) (cost_low seed i) (omega (arith, cost_high seed i, scale_high seed i))
 
 differ : (seed n i k : ℕ) → i < k → k < n → n ≤ 64 → (generated_task seed n i).name ≡ (generated_task seed n k).name → ⊥
 unfolding generated_task
@@ -59,7 +60,8 @@ sheet_valid seed n some few =
     }
 
 -- the task that two words make
-task_drawn : (seed n i state middle scale cost : ℕ) → state ≡ after (2 * i) seed → middle ≡ next state → scale ≡ 1 + word state % 50 → cost ≡ 1 + word middle % scale →
+task_drawn : (seed n i state middle scale cost : ℕ) → state ≡ after (2 * i) seed → middle ≡ next state →
+    scale ≡ 1 + word state % 50 → cost ≡ 1 + word middle % scale →
     task_by i (2 * n * scale) cost ≡ generated_task seed n i
 unfolding generated_task period_of cost_of scale_of
 task_drawn seed n i state middle scale cost s m first second =
@@ -67,7 +69,8 @@ task_drawn seed n i state middle scale cost s m first second =
     rw (second, one, first, s) refl
 
 -- one task more
-pub task_more : (seed n i state middle scale cost : ℕ) (task : Task) (before now : List Task) → state ≡ after (2 * i) seed → middle ≡ next state → scale ≡ 1 + word state % 50 → cost ≡ 1 + word middle % scale →
+pub task_more : (seed n i state middle scale cost : ℕ) (task : Task) (before now : List Task) →
+    state ≡ after (2 * i) seed → middle ≡ next state → scale ≡ 1 + word state % 50 → cost ≡ 1 + word middle % scale →
     task ≡ task_by i (2 * n * scale) cost → before ≡ first_tasks seed n i → now ≡ before ++ task ∷ [] → now ≡ first_tasks seed n (i + 1)
 task_more seed n i state middle scale cost task before now s m first second e b more =
     let whole : task ≡ generated_task seed n i = e ∙ task_drawn seed n i state middle scale cost s m first second in

@@ -9,7 +9,9 @@ use Rattle.std.proofs.lemmas.Nat.{mod_below}
 use Rattle.lists.specs.Ranges.{is_between}
 use Rattle.curve.specs.Curves.{periodic}
 use Rattle.curve.specs.Validity.{IsCurve}
+use Rattle.task_sheet.specs.Limits.{no_point}
 use Rattle.task_sheet.specs.Rules.{is_name, is_in_range, are_in_range}
+use Rattle.task_sheet.specs.Limits.{no_point}
 use Rattle.task_sheet.specs.Sheets.{CutFits, IsTask}
 use Rattle.task_sheet.proofs.RuleFacts.{positive_from}
 use Rattle.exercise.specs.GeneratedSheet.{halves, cut_by, task_by}
@@ -21,7 +23,8 @@ between low high n l h = and_from _ _ (le-leb low n l) (le-leb n high h)
 printable : (n : ℕ) → n < 2 ^ 64 → list_all (is_between 33 126) (decimal n) ≡ true
 printable = decimal_by_steps (λ n ds. list_all (is_between 33 126) ds ≡ true)
     (λ n l. and_from _ _ (between 33 126 (48 + n) (omega arith) (omega arith)) refl)
-    (λ n ds l h. list_all-append (is_between 33 126) ds ((48 + n % 10) ∷ []) ∙ and_from _ _ h (and_from _ _ (between 33 126 (48 + n % 10) (omega arith) (omega (arith, mod_below n 10 (omega arith)))) refl))
+    (λ n ds l h. list_all-append (is_between 33 126) ds ((48 + n % 10) ∷ []) ∙ and_from _ _ h
+    (and_from _ _ (between 33 126 (48 + n % 10) (omega arith) (omega (arith, mod_below n 10 (omega arith)))) refl))
 
 name_fits : (i : ℕ) → i < 64 → is_name (116 ∷ decimal i) ≡ true
 name_fits i l =
@@ -68,6 +71,8 @@ task_valid i period cost b l h d g = record {
   deadline_low = l;
   deadline_high = h;
   priority_high = omega arith;
+  jitter_high = omega arith;
+  point = no_point;
   curve = curve_valid period l h;
   cut = cut_fits (i % 4) cost d g;
 }

@@ -1,5 +1,5 @@
 -- The sheet that a seed makes.
-use Rattle.std.specs.Prelude.{ℕ, zero, suc, ◌+◌, ◌-◌, ◌*◌, ◌/◌, ◌%◌, ◌==◌, List, [], ◌∷◌, ◌++◌, cond, codes, decimal}
+use Rattle.std.specs.Prelude.{ℕ, pos, zero, suc, ◌+◌, ◌-◌, ◌*◌, ◌/◌, ◌%◌, ◌==◌, List, [], ◌∷◌, ◌++◌, cond, codes, decimal}
 use Rattle.curve.specs.Curves.{periodic}
 use Rattle.task_sheet.specs.declared.tasks.PolicyKind.TheVariants.{Edf}
 use Rattle.task_sheet.specs.declared.tasks.SupplySpec.TheVariants.{Unit as Whole}
@@ -37,6 +37,8 @@ task_by i period cost = record {
   cost = cost;
   deadline = period;
   priority = 0;
+  jitter = 0;
+  point = pos 0;
   curve = periodic period;
   cut = cut_by (i % 4) cost;
 }

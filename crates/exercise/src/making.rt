@@ -54,6 +54,8 @@ fn make_task(alloc: Global, i: u32, period: u64, cost: u64) -> Result<Task, Allo
         cost,
         deadline: period,
         priority: 0,
+        jitter: 0,
+        point: 0,
         curve: Prefix::periodic(alloc, period)?,
         cut: make_cut(alloc, i, cost)?,
     })

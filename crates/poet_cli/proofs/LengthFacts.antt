@@ -7,16 +7,17 @@ use Rattle.std.proofs.lemmas.List.{length-append}
 use Rattle.std.proofs.lemmas.List.Elements.{All-head, All-tail}
 use Rattle.std.proofs.lemmas.List.Sums.{sum_by-cons}
 use Rattle.certificate.specs.declared.cert.Entry.{Entry}
+use Rattle.certificate.specs.declared.cert.Point.{Point}
 use Rattle.certificate.specs.declared.cert.Cert.{Cert}
 use Rattle.certificate.specs.Text.{point_text, entry_line, entries_text, text_of, IsPoint, IsEntry, IsWithinGrammar}
 
 decimal_short : (n : ℕ) → n ≤ 1000000000 → length (decimal n) ≤ 10
 decimal_short n h = length-decimal-le 10 n (omega arith) (omega arith) (omega arith)
 
-point_short : (q : ℕ × ℕ) → IsPoint q → length (point_text q) ≤ 24
-point_short q p = simp length-append (omega (arith, decimal_short q.0 p.offset, decimal_short q.1 p.end))
+point_short : (q : Point) → IsPoint q → length (point_text q) ≤ 24
+point_short q p = simp length-append (omega (arith, decimal_short q.offset p.offset, decimal_short q.end p.end))
 
-points_short : (points : List (ℕ × ℕ)) → All IsPoint points → length (flat_map point_text points) ≤ 24 * length points
+points_short : (points : List Point) → All IsPoint points → length (flat_map point_text points) ≤ 24 * length points
 points_short [] each = omega arith
 points_short (q ∷ points) each =
     let here = point_short q (All-head IsPoint q points each) in

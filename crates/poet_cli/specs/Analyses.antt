@@ -30,7 +30,7 @@ pub record IsBestBy (p : PolicyMeaning) (sheet : SheetParts) (horizon : ℕ) (ce
   pub sound : AreSound p per_task_meaning (sbf_of sheet.supply) sheet false (bounds_of cert)
   pub least : NoneSmaller p per_task_meaning (sbf_of sheet.supply) sheet cert
 
--- where a task has no bound, no certificate with numbers up to the horizon meets the conditions
+-- where a task has no bound, no certificate with numbers up to the horizon and a point in each entry meets the conditions
 abbrev pub IsNoneBy : PolicyMeaning → SheetParts → ℕ → AnalyseRefusal → Type 0
 IsNoneBy p sheet horizon refusal = NoneWhereNoBound p per_task_meaning (sbf_of sheet.supply) sheet horizon refusal
 
@@ -45,7 +45,7 @@ pub record BestHolds (sheet : SheetParts) (horizon : ℕ) : Type 0 where
   pub holds : IsBestBy (meaning_of sheet.policy) sheet horizon cert
   pub checks : Checks sheet cert
 
--- no certificate with numbers up to the horizon meets the conditions, by the sheet's own policy
+-- no certificate with numbers up to the horizon and a point in each entry meets the conditions, by the sheet's own policy
 abbrev pub NoneHolds : SheetParts → ℕ → Type 0
 NoneHolds sheet horizon = NoneMeets (meaning_of sheet.policy) per_task_meaning (sbf_of sheet.supply) sheet horizon
 
@@ -57,7 +57,8 @@ pub record AnalysisHolds (name : List ℕ) (horizon : ℕ) (files : Files) : Typ
   pub reads : sheet_of_text bytes ≡ Ok sheet
   pub best_holds : BestHolds sheet horizon
 
--- the bytes of the file are a sheet, and no certificate with numbers up to the horizon meets the conditions for it
+-- the bytes of the file are a sheet, and no certificate with numbers up to the horizon and a point in each entry meets
+-- the conditions for it
 pub record NothingMeets (name : List ℕ) (horizon : ℕ) (files : Files) : Type 0 where
   pub bytes : List ℕ
   pub file : files name ≡ Some bytes

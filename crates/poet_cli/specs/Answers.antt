@@ -66,7 +66,7 @@ best_for sheet horizon = best_of (meaning_of sheet.policy) per_task_meaning (sbf
 -- what is printed of an analysis: the certificate's text, or which task has no bound
 abbrev pub analysed_by : SheetParts → Result Cert AnalyseRefusal → Ending
 analysed_by sheet (Ok cert) = Ok (printed.Done (text_of cert))
-analysed_by sheet (Err (solver.NoBound i)) = Ok (printed.JudgedNo (no_bound_text (task_at sheet i).name))
+analysed_by sheet (Err (solver.NoBound i part)) = Ok (printed.JudgedNo (no_bound_text (task_at sheet i).name part))
 analysed_by sheet (Err (solver.Points i)) = Err (Points (task_at sheet i).name)
 analysed_by sheet (Err solver.Memory) = Err Memory
 

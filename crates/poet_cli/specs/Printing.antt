@@ -4,8 +4,10 @@ use Rattle.task_sheet.specs.declared.tasks.Task.{Task}
 use Rattle.task_sheet.specs.SheetParts.{SheetParts}
 use Rattle.task_sheet.specs.Sheets.{task_at}
 use Rattle.conditions.specs.declared.failed.Cond.{Cond}
-use Rattle.conditions.specs.declared.failed.Cond.TheVariants.{K1, K3, K4, K5, K6, K7, K8, K9}
+use Rattle.conditions.specs.declared.failed.Cond.TheVariants.{K1, K2, K3, K4, K5, K6, K7, K8, K9}
 use Rattle.conditions.specs.declared.failed.Failed.{Failed}
+use Rattle.solver.specs.declared.analysis.Part.{Part}
+use Rattle.solver.specs.declared.analysis.Part.TheVariants.{Window, Bound}
 
 -- whether a deadline is met
 abbrev pub met_word : ℕ → ℕ → List ℕ
@@ -36,6 +38,7 @@ accepted_text sheet bounds = codes "accepted\n" ++ bounds_text sheet.tasks bound
 
 abbrev pub cond_text : Cond → List ℕ
 cond_text K1 = codes "refused K1"
+cond_text K2 = codes "refused K2"
 cond_text K3 = codes "refused K3"
 cond_text K4 = codes "refused K4"
 cond_text K5 = codes "refused K5"
@@ -52,6 +55,10 @@ task_text sheet (Some i) = codes " task " ++ (task_at sheet i).name
 unfoldable pub refused_text : SheetParts → Failed → List ℕ
 refused_text sheet failed = cond_text failed.cond ++ (task_text sheet failed.task ++ (named (codes " point ") failed.point ++ codes "\n"))
 
+abbrev pub part_text : Part → List ℕ
+part_text Window = codes " window\n"
+part_text Bound = codes " bound\n"
+
 -- no bound task NAME window
-abbrev pub no_bound_text : List ℕ → List ℕ
-no_bound_text name = codes "no bound task " ++ (name ++ codes " window\n")
+abbrev pub no_bound_text : List ℕ → Part → List ℕ
+no_bound_text name part = codes "no bound task " ++ (name ++ part_text part)

@@ -73,7 +73,7 @@ fn analysis(alloc: Global, sheet: &Sheet, horizon: u64) -> Result<Printed, Refus
             Ok(text) => Ok(Printed::Done(Items::new(text))),
             Err(_) => Err(Refusal::Memory),
         },
-        Err(AnalyseRefusal::NoBound { task }) => match no_bound(alloc, sheet, task) {
+        Err(AnalyseRefusal::NoBound { task, part }) => match no_bound(alloc, sheet, task, part) {
             Ok(text) => Ok(Printed::JudgedNo(text)),
             Err(_) => Err(Refusal::Memory),
         },

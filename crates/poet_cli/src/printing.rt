@@ -1,11 +1,12 @@
 //! The texts of a judgement, and what other texts share with them.
 ghost use Rattle.std.specs.Prelude.{◌≡◌, ◌++◌, length, OnOk, IfOk};
 ghost use Rattle.task_sheet.specs.Sheets.{task_at};
-ghost use Rattle.poet_cli.specs.Printing.{counted, named, bound_line, bounds_text, accepted_text, cond_text as cond_text_of, task_text, refused_text, no_bound_text};
+ghost use Rattle.poet_cli.specs.Printing.{counted, named, bound_line, bounds_text, accepted_text, cond_text as cond_text_of, task_text, refused_text, part_text as part_text_of, no_bound_text};
 
 use conditions::{Cond, Failed};
 use lists::Items;
 use poet_io::push_number;
+use solver::Part;
 use std::alloc::{AllocError, Global};
 use task_sheet::{Sheet, Task};
 
@@ -71,6 +72,7 @@ fn cond_text(cond: Cond) -> &'static str
 {
     match cond {
         Cond::K1 => "refused K1",
+        Cond::K2 => "refused K2",
         Cond::K3 => "refused K3",
         Cond::K4 => "refused K4",
         Cond::K5 => "refused K5",
@@ -118,12 +120,26 @@ pub fn refused(alloc: Global, sheet: &Sheet, failed: &Failed) -> Result<Items<u8
     Ok(Items::new(text))
 }
 
-/// That a task has no bound.
-pub fn no_bound(alloc: Global, sheet: &Sheet, task: u32) -> Result<Items<u8>, AllocError>
-    ensures { IfOk result (λ text. text ≡ no_bound_text (task_at sheet.now task).name) }
+fn part_text(part: Part) -> &'static str
+    ensures { result.now ≡ part_text_of part }
+{
+    match part {
+        Part::Window => " window\n",
+        Part::Bound => " bound\n",
+    }
+}
+
+/// That a task has no bound, for want of this part.
+pub fn no_bound(
+    alloc: Global,
+    sheet: &Sheet,
+    task: u32,
+    part: Part,
+) -> Result<Items<u8>, AllocError>
+    ensures { IfOk result (λ text. text ≡ no_bound_text (task_at sheet.now task).name part) }
 {
     let mut text = Vec::from_slice(alloc, "no bound task ".as_bytes())?;
     text.extend_from_slice(name_at(sheet, task).as_bytes())?;
-    text.extend_from_slice(" window\n".as_bytes())?;
+    text.extend_from_slice(part_text(part).as_bytes())?;
     Ok(Items::new(text))
 }

@@ -26,6 +26,8 @@ fn field_word(field: Field) -> &'static str
         Field::Cost => "cost",
         Field::Deadline => "deadline",
         Field::Priority => "priority",
+        Field::Jitter => "jitter",
+        Field::Point => "point",
         Field::Period => "period",
         Field::Curve => "curve",
         Field::CurveHorizon => "curve.horizon",

@@ -2,7 +2,7 @@
 use Rattle.std.proofs.Common.{◌≡◌, ℕ, ◌+◌, List, [], ◌∷◌, ◌++◌, length, append_assoc, refl, sym, ap, subst, ◌∙◌, arith, Result, Ok, Err}
 use Rattle.poet_io.specs.declared.text_refusal.TextRefusal.{TextRefusal}
 use Rattle.poet_io.specs.declared.text_refusal.TextRefusal.TheVariants.{Line, Memory}
-use Rattle.poet_io.specs.Texts.{Format, Parses, BeginsText, newlines, IsRefusedLine, IsRefusedAt, IsReading, HaveOneReading}
+use Rattle.poet_io.specs.Texts.{Format, Parses, BeginsText, newlines, IsRefusedLine, IsReading, HaveOneReading}
 
 -- two fronts of one list that are of one length
 same_front : (xs ys us vs : List ℕ) → xs ++ us ≡ ys ++ vs → length xs ≡ length ys → xs ≡ ys

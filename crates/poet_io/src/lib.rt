@@ -1,5 +1,5 @@
 //! The outside of the tool: shelves of named files and sinks of bytes, which count their faults, and
-//! the numbers of its texts.
+//! its texts: their numbers and their refusals.
 #![tactic(auto)]
 
 mod calls;
@@ -9,7 +9,6 @@ mod log;
 mod mem_shelf;
 mod mem_sink;
 mod numbers;
-mod pushing;
 mod shelf;
 mod sink;
 mod std_sink;
@@ -20,8 +19,7 @@ pub use file_shelf::FileShelf;
 pub use log::{Call, Event, Log, Taken};
 pub use mem_shelf::MemShelf;
 pub use mem_sink::MemSink;
-pub use numbers::{put_number, put_wide, read_number, read_number_in};
-pub use pushing::{push_field, push_number};
+pub use numbers::{push_field, push_number, put_number, put_wide, read_number, read_number_in};
 pub use shelf::{ReadRefusal, Shelf, ShelfFault, read_whole};
 pub use sink::{Sink, SinkFault, write_all, write_parts};
 pub use std_sink::StdSink;

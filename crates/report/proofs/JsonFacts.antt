@@ -7,9 +7,10 @@ use Rattle.serde_json.proofs.OnLiterals.{serde_json_on_literals}
 use Rattle.task_sheet.specs.declared.tasks.PolicyKind.{PolicyKind}
 use Rattle.task_sheet.specs.declared.tasks.PolicyKind.TheVariants.{Fp, Edf, Fifo}
 use Rattle.task_sheet.specs.SheetParts.{SheetParts}
+use Rattle.task_sheet.specs.Words.{policy_word}
 use Rattle.certificate.specs.declared.cert.Cert.{Cert}
 use Rattle.report.specs.Rows.{Row, rows_of, is_met}
-use Rattle.report.specs.JsonReport.{policy_word, truth_word, row_text, more_rows_text, rows_text, row_data, report_data, json_report_of}
+use Rattle.report.specs.JsonReport.{truth_word, row_text, more_rows_text, rows_text, row_data, report_data, json_report_of}
 
 truth : (b : Bool) → compact_text (boolean b) ≡ truth_word b
 unfolding serde_json_on_literals

@@ -3,16 +3,10 @@ use Rattle.std.specs.Prelude.{ℕ, Bool, List, [], ◌∷◌, ◌++◌, length, 
 use Rattle.json.specs.Print.{quoted}
 use Rattle.serde_json.specs.Data.{Data, number, unsigned, boolean, string, array, object, member, no_members}
 use Rattle.serde_json.specs.View.{items_of}
-use Rattle.task_sheet.specs.declared.tasks.PolicyKind.{PolicyKind}
-use Rattle.task_sheet.specs.declared.tasks.PolicyKind.TheVariants.{Fp, Edf, Fifo}
 use Rattle.task_sheet.specs.SheetParts.{SheetParts}
+use Rattle.task_sheet.specs.Words.{policy_word}
 use Rattle.certificate.specs.declared.cert.Cert.{Cert}
 use Rattle.report.specs.Rows.{Row, rows_of, is_met, missed_of}
-
-abbrev pub policy_word : PolicyKind → List ℕ
-policy_word Fp = codes "fp"
-policy_word Edf = codes "edf"
-policy_word Fifo = codes "fifo"
 
 abbrev pub truth_word : Bool → List ℕ
 truth_word b = if b then codes "true" else codes "false"

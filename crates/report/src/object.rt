@@ -4,23 +4,13 @@ ghost use Rattle.serde_json.specs.View.{view};
 ghost use Rattle.serde_json.specs.Written.{compact_text};
 ghost use Rattle.certificate.specs.Text.{IsWithinGrammar};
 ghost use Rattle.report.specs.Rows.{rows_of};
-ghost use Rattle.report.specs.JsonReport.{policy_word as policy_word_of, row_data, report_data, json_report_of};
+ghost use Rattle.report.specs.JsonReport.{row_data, report_data, json_report_of};
 
 use crate::rows::{count_missed, is_met};
 use certificate::{Cert, Entry};
 use serde_json::{Value, json};
 use std::alloc::{AllocError, Global};
-use task_sheet::{PolicyKind, Sheet, Task};
-
-fn policy_word(policy: PolicyKind) -> &'static str
-    ensures { result.now ≡ policy_word_of policy }
-{
-    match policy {
-        PolicyKind::Fp => "fp",
-        PolicyKind::Edf => "edf",
-        PolicyKind::Fifo => "fifo",
-    }
-}
+use task_sheet::{Sheet, Task};
 
 fn row_value(alloc: Global, task: &Task, entry: &Entry) -> Result<Value, AllocError>
     ensures { IfOk result (λ value. view value ≡ row_data (task.now, entry.now)) }
@@ -56,7 +46,7 @@ fn report_value(alloc: Global, sheet: &Sheet, cert: &Cert) -> Result<Value, Allo
     ensures { IfOk result (λ value. view value ≡ report_data sheet.now cert.now) }
 {
     let tasks = Value::Array(row_values(alloc, sheet, cert)?);
-    let policy = policy_word(sheet.policy());
+    let policy = sheet.policy().word();
     let missed = count_missed(sheet, cert);
     json!(in alloc; {"policy": policy, "missed": missed, "tasks": tasks})
 }

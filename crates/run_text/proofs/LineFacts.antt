@@ -12,7 +12,7 @@ use Rattle.run_model.specs.declared.run.Tick.{Tick}
 use Rattle.run_model.specs.declared.run.Tick.TheVariants.{Off, Idle, Runs}
 use Rattle.run_text.specs.Text.{Stretch, stretch, tick_words, stretch_line, segment_text, job_line, counts_line, limit, IsSegment, IsJob, IsTickOf}
 use Rattle.run_text.specs.Words.{words_of, is_text}
-use Rattle.run_text.specs.Lines.{both, counts_from, counts_of, job_number, segments_from, make_job, job_with, job_from, job_of, counted, named_job, stretch_from, stretch_of}
+use Rattle.run_text.specs.Lines.{both, counts_from, counts_of, job_number, segments_from, make_job, job_with, job_from, job_of, stretch_with, named_job, stretch_from, stretch_of}
 use Rattle.run_text.proofs.WordFacts.{Lacks, lacks_append, decimal_lacks, words_last, words_more, words_of-numbers, text_is}
 
 pub all_by_recursion : {X : Type 0} (P : X → Type 0) (xs : List X) → All P xs → AllByRecursion P xs
@@ -140,17 +140,17 @@ named_job-Some (suc last) word k e =
     let r = number_in-Some 0 last word k e in
     (r.0, omega (arith, r.2))
 
-counted-decimal : (left : ℕ) (x : Tick) (n : ℕ) → left ≤ 100000 → 1 ≤ n → n ≤ left → counted left x (decimal n) ≡ Some (stretch x n)
-counted-decimal left x n few some le =
+stretch_with-decimal : (left : ℕ) (x : Tick) (n : ℕ) → left ≤ 100000 → 1 ≤ n → n ≤ left → stretch_with left x (decimal n) ≡ Some (stretch x n)
+stretch_with-decimal left x n few some le =
     let number : number_in 1 left (decimal n) ≡ Some n = number_in-decimal 1 left n (omega arith) some le in
     rw number refl
 
 stretch_from-words : (m left : ℕ) (x : Tick) (n : ℕ) → m ≤ 20000 → left ≤ 100000 → IsTickOf m x → 1 ≤ n → n ≤ left → stretch_from m left (stretch_words x n) ≡ Some (stretch x n)
-stretch_from-words m left Off n small few of some le = counted-decimal left Off n few some le
-stretch_from-words m left Idle n small few of some le = counted-decimal left Idle n few some le
+stretch_from-words m left Off n small few of some le = stretch_with-decimal left Off n few some le
+stretch_from-words m left Idle n small few of some le = stretch_with-decimal left Idle n few some le
 stretch_from-words m left (Runs k) n small few of some le =
     let number : named_job m (decimal k) ≡ Some k = named_job-decimal m k (omega arith) of in
-    ap (λ (o : Option ℕ). option_and_then (λ job. counted left (Runs job) (decimal n)) o) number ∙ counted-decimal left (Runs k) n few some le
+    ap (λ (o : Option ℕ). option_and_then (λ job. stretch_with left (Runs job) (decimal n)) o) number ∙ stretch_with-decimal left (Runs k) n few some le
 
 pub stretch_of-front : (m left : ℕ) (x : Tick) (n : ℕ) → m ≤ 20000 → left ≤ 100000 → IsTickOf m x → 1 ≤ n → n ≤ left → stretch_of m left (stretch_front x n) ≡ Some (stretch x n)
 stretch_of-front m left x n small few of some le =
@@ -172,12 +172,12 @@ counted_by left x n s (Some k) is e =
     let count : k ≡ s.count = ap (λ (t : Stretch). t.count) same in
     (r.0 ∙ ap decimal count, ap (λ (t : Stretch). t.tick) same, omega (arith, count, r.1), omega (arith, count, r.2))
 
-counted-is : (left : ℕ) (x : Tick) (n : List ℕ) (s : Stretch) → counted left x n ≡ Some s → (n ≡ decimal s.count) × (x ≡ s.tick) × (1 ≤ s.count) × (s.count ≤ left)
-counted-is left x n s e = counted_by left x n s (number_in 1 left n) refl e
+stretch_with-is : (left : ℕ) (x : Tick) (n : List ℕ) (s : Stretch) → stretch_with left x n ≡ Some s → (n ≡ decimal s.count) × (x ≡ s.tick) × (1 ≤ s.count) × (s.count ≤ left)
+stretch_with-is left x n s e = counted_by left x n s (number_in 1 left n) refl e
 
-plain_reads : (m left : ℕ) (a n : List ℕ) (x : Tick) (word : List ℕ) (s : Stretch) → is_text a word ≡ true → ((k : ℕ) → stretch_words x k ≡ word ∷ (decimal k ∷ [])) → IsTickOf m x → counted left x n ≡ Some s → ReadsStretch m left (a ∷ (n ∷ [])) s
+plain_reads : (m left : ℕ) (a n : List ℕ) (x : Tick) (word : List ℕ) (s : Stretch) → is_text a word ≡ true → ((k : ℕ) → stretch_words x k ≡ word ∷ (decimal k ∷ [])) → IsTickOf m x → stretch_with left x n ≡ Some s → ReadsStretch m left (a ∷ (n ∷ [])) s
 plain_reads m left a n x word s test words of e =
-    let r = counted-is left x n s e in
+    let r = stretch_with-is left x n s e in
     let first : a ≡ word = text_is a word test in
     let number : n ≡ decimal s.count = r.0 in
     record {
@@ -187,10 +187,10 @@ plain_reads m left a n x word s test words of e =
       few = r.3;
     }
 
-job_reads : (m left : ℕ) (a k n : List ℕ) (s : Stretch) (o : Option ℕ) → is_text a (codes "run") ≡ true → named_job m k ≡ o → option_and_then (λ job. counted left (Runs job) n) o ≡ Some s → ReadsStretch m left (a ∷ (k ∷ (n ∷ []))) s
+job_reads : (m left : ℕ) (a k n : List ℕ) (s : Stretch) (o : Option ℕ) → is_text a (codes "run") ≡ true → named_job m k ≡ o → option_and_then (λ job. stretch_with left (Runs job) n) o ≡ Some s → ReadsStretch m left (a ∷ (k ∷ (n ∷ []))) s
 job_reads m left a k n s None test is e = absurd (cc)
 job_reads m left a k n s (Some j) test is e =
-    let r = counted-is left (Runs j) n s e in
+    let r = stretch_with-is left (Runs j) n s e in
     let job = named_job-Some m k j is in
     let first : a ≡ codes "run" = text_is a (codes "run") test in
     let second : k ≡ decimal j = job.0 in

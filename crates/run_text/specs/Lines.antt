@@ -50,12 +50,12 @@ abbrev pub job_of : ℕ → List ℕ → Option Job
 job_of room line = job_from room (words_of line)
 
 -- so many equal ticks, where so many are left
-abbrev pub counted : ℕ → Tick → List ℕ → Option Stretch
-counted left x n = option_map (λ count. stretch x count) (number_in 1 left n)
+abbrev pub stretch_with : ℕ → Tick → List ℕ → Option Stretch
+stretch_with left x n = option_map (λ count. stretch x count) (number_in 1 left n)
 
 -- the stretch of the words off N, or idle N
 abbrev pub plain_stretch : ℕ → List ℕ → List ℕ → Option Stretch
-plain_stretch left a n = if is_text a (codes "off") then counted left Off n else (if is_text a (codes "idle") then counted left Idle n else None)
+plain_stretch left a n = if is_text a (codes "off") then stretch_with left Off n else (if is_text a (codes "idle") then stretch_with left Idle n else None)
 
 -- the job that a word names, where so many jobs are numbered from 0
 abbrev pub named_job : ℕ → List ℕ → Option ℕ
@@ -64,7 +64,7 @@ named_job (suc last) word = number_in 0 last word
 
 -- the stretch of the words run K N
 abbrev pub job_stretch : ℕ → ℕ → List ℕ → List ℕ → List ℕ → Option Stretch
-job_stretch jobs left a k n = if is_text a (codes "run") then option_and_then (λ job. counted left (Runs job) n) (named_job jobs k) else None
+job_stretch jobs left a k n = if is_text a (codes "run") then option_and_then (λ job. stretch_with left (Runs job) n) (named_job jobs k) else None
 
 -- the stretch of these words
 abbrev pub stretch_from : ℕ → ℕ → List (List ℕ) → Option Stretch

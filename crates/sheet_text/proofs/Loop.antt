@@ -10,7 +10,7 @@ use Rattle.curve.specs.Validity.{IsCurve}
 use Rattle.task_sheet.specs.declared.tasks.PolicyKind.{PolicyKind}
 use Rattle.task_sheet.specs.declared.tasks.Task.{Task}
 use Rattle.task_sheet.specs.declared.refusal.SheetRefusal.{SheetRefusal}
-use Rattle.task_sheet.specs.Rules.{is_name, is_in_range, cut_rule, task_rule, tasks_rule}
+use Rattle.task_sheet.specs.Rules.{is_name, is_in_range, is_priority_point, most_jitter, cut_rule, task_rule, tasks_rule}
 use Rattle.task_sheet.specs.Sheets.{no_task}
 use Rattle.task_sheet.proofs.RuleFacts.{both_hold}
 use Rattle.sheet_text.specs.TaskRows.{task_of, tasks_after, names_of}
@@ -60,6 +60,8 @@ next_curves tasks t before this k l = elim (cases_lt k (length tasks)) [
 ]
 
 -- what the rows of a task show is its rule
-pub task_rule_from : (n : ℕ) (names : List (List ℕ)) (t : Task) → is_name t.name ≡ true → list_any (bytes_eq t.name) names ≡ false → is_in_range t.cost ≡ true → is_in_range t.deadline ≡ true → t.priority ≤ 1000000000 → cut_rule n t.cost t.cut ≡ Ok tt → task_rule n names t ≡ Ok tt
+pub task_rule_from : (n : ℕ) (names : List (List ℕ)) (t : Task) → is_name t.name ≡ true → list_any (bytes_eq t.name) names ≡ false → is_in_range t.cost ≡ true → is_in_range t.deadline ≡ true → t.priority ≤ 1000000000 → t.jitter ≤ most_jitter → is_priority_point t.point ≡ true → cut_rule n t.cost t.cut ≡ Ok tt →
+    task_rule n names t ≡ Ok tt
 unfolding task_rule
-task_rule_from n names t plain fresh cost deadline priority cut = rw (plain, fresh, cost, deadline, le-leb t.priority 1000000000 priority, cut) refl
+task_rule_from n names t plain fresh cost deadline priority jitter point cut =
+    rw (plain, fresh, cost, deadline, le-leb t.priority 1000000000 priority, le-leb t.jitter most_jitter jitter, point, cut) refl

@@ -1,7 +1,8 @@
 -- What is printed reads again.
-use Rattle.std.proofs.Common.{◌≡◌, ℕ, ◌+◌, ◌<◌, ◌≤◌, true, suc, List, [], ◌∷◌, ◌++◌, length, length-append, get_or, map, refl, ◌∙◌, arith, append_assoc, Some, Ok}
+use Rattle.std.proofs.Common.{◌≡◌, ℕ, ℤ, pos, ◌+◌, ◌<◌, ◌≤◌, true, suc, List, [], ◌∷◌, ◌++◌, length, length-append, get_or, map, refl, ap, ◌∙◌, arith, append_assoc, Some, Ok}
 use Rattle.std.proofs.lemmas.Bool.{and_from, le-leb, eq-eqb, lt-ltb}
 use Rattle.std.proofs.lemmas.List.{append-nil, map_push}
+use Rattle.std.proofs.lemmas.Int.{ints}
 use Rattle.toml.specs.Text.{are_tables}
 use Rattle.toml.specs.Data.{string, table}
 use Rattle.toml.specs.View.{items_of}
@@ -18,8 +19,9 @@ use Rattle.task_sheet.specs.declared.tasks.Cut.TheVariants.{Full, Never, Fixed, 
 use Rattle.task_sheet.specs.declared.tasks.Task.{Task}
 use Rattle.task_sheet.specs.declared.refusal.Place.{Place}
 use Rattle.task_sheet.specs.SheetParts.{SheetParts}
-use Rattle.task_sheet.specs.Rules.{is_in_range, supply_rule, cut_rule, task_rule, tasks_rule}
+use Rattle.task_sheet.specs.Rules.{is_in_range, is_priority_point, most_jitter, most_point, supply_rule, cut_rule, task_rule, tasks_rule}
 use Rattle.task_sheet.specs.Sheets.{parts_of, no_task, IsValidSheet}
+use Rattle.task_sheet.specs.Words.{policy_word}
 use Rattle.task_sheet.proofs.RuleFacts.{both_hold, holds_means, positive_from, positive_high, cut_passes, promise_passes, task_means, tasks_from_valid}
 use Rattle.sheet_text.specs.Documents.{number_of, all_of, items_count}
 use Rattle.sheet_text.specs.SupplyRows.{promised_rule}
@@ -27,7 +29,7 @@ use Rattle.sheet_text.specs.CurveRows.{step_of, curve_rule}
 use Rattle.sheet_text.specs.CutRows.{segmented_rule, preemption_rule}
 use Rattle.sheet_text.specs.TaskRows.{name_rule, names_of, task_of, tasks_after}
 use Rattle.sheet_text.specs.SheetRows.{policy_rule, sheet_of}
-use Rattle.sheet_text.specs.Printed.{number_data, step_data, curve_data, cut_data, task_data, policy_word, promise_data, sheet_data}
+use Rattle.sheet_text.specs.Printed.{number_data, step_data, curve_data, cut_data, task_data, promise_data, sheet_data}
 
 numbers_again : (xs : List ℕ) → all_of number_of (items_of (map number_data xs)) ≡ Some xs
 numbers_again [] = refl
@@ -66,12 +68,26 @@ cut_again n cost Never h = refl
 cut_again n cost (Fixed segments) h = rw (numbers_again segments, h) refl
 cut_again n cost (Floating longest) h = rw h refl
 
+-- a valid task has no jitter and no priority point, and neither is printed
+no_jitter : (t : Task) → t.jitter ≤ most_jitter → 0 ≡ t.jitter
+unfolding most_jitter
+no_jitter t h = omega (arith, h)
+
+no_point : (t : Task) → is_priority_point t.point ≡ true → pos 0 ≡ t.point
+unfolding most_point
+no_point t h = grind (arith, ints)
+
+nothing_lost : (t : Task) → t.jitter ≤ most_jitter → is_priority_point t.point ≡ true → record t { jitter = 0; point = pos 0 } ≡ t
+nothing_lost t h k =
+    ap (λ (n : ℕ). record t { jitter = n; point = pos 0 }) (no_jitter t h) ∙ ap (λ (q : ℤ). record t { point = q }) (no_point t k)
+
 task_again : (policy : PolicyKind) (n : ℕ) (names : List (List ℕ)) (t : Task) → task_rule n names t ≡ Ok tt → IsCurve t.curve → task_of policy n names (task_data t) ≡ Ok t
 unfolding task_of name_rule
 task_again policy n names t rule curve =
     let means = task_means n names t rule in
     let priority : is_between 0 1000000000 t.priority ≡ true = and_from _ _ (le-leb 0 t.priority (omega arith)) (le-leb t.priority 1000000000 means.priority) in
-    rw (means.name, means.fresh, means.cost, means.deadline, priority, curve_again _ t.curve curve, cut_again n t.cost t.cut (cut_passes n t.cost t.cut (positive_high t.cost means.cost) means.cut)) refl
+    let cut = cut_again n t.cost t.cut (cut_passes n t.cost t.cut (positive_high t.cost means.cost) means.cut) in
+    rw (means.name, means.fresh, means.cost, means.deadline, priority, curve_again _ t.curve curve, cut) (ap Ok (nothing_lost t means.jitter means.point))
 
 tasks_again : (policy : PolicyKind) (done ts : List Task) → tasks_rule (length done) (names_of done) ts ≡ Ok tt → ((i : ℕ) → i < length ts → IsCurve (get_or ts i no_task).curve) → tasks_after policy done (items_of (map task_data ts)) ≡ Ok (done ++ ts)
 unfolding tasks_after

@@ -1,5 +1,5 @@
 -- Texts whose sheet, or whose first broken rule, is known.
-use Rattle.std.proofs.Common.{◌≡◌, ℕ, List, [], ◌∷◌, ◌++◌, codes, Ok, Err, refl}
+use Rattle.std.proofs.Common.{◌≡◌, ℕ, pos, List, [], ◌∷◌, ◌++◌, codes, Ok, Err, refl}
 use lib.Utf8.{encode}
 use Rattle.std.specs.Str.{is_utf8, chars}
 use Rattle.toml.proofs.OnLiterals.{toml_on_literals}
@@ -61,6 +61,6 @@ unfolding sheet_of_text is_utf8 chars sheet_of tasks_after task_of name_rule tom
 second_of_a_name = refl
 
 pub one_task : sheet_of_text (codes "policy = \"fp\"\n" ++ task_text (codes "cost = 4\ndeadline = 9\npriority = 2\nperiod = 8\npreemption = { floating = 4 }\n"))
-    ≡ Ok (record { policy = Fp; supply = Whole; tasks = record { name = codes "a"; cost = 4; deadline = 9; priority = 2; curve = periodic 8; cut = Floating 4 } ∷ [] })
+    ≡ Ok (record { policy = Fp; supply = Whole; tasks = record { name = codes "a"; cost = 4; deadline = 9; priority = 2; jitter = 0; point = pos 0; curve = periodic 8; cut = Floating 4 } ∷ [] })
 unfolding sheet_of_text is_utf8 chars sheet_of tasks_after task_of name_rule segmented_rule toml_on_literals
 one_task = refl

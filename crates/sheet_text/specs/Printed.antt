@@ -6,14 +6,13 @@ use Rattle.toml.specs.Data.{Data, string, integer, array, table, no_items, item,
 use Rattle.toml.specs.View.{items_of}
 use Rattle.curve.specs.declared.prefix.Step.{Step}
 use Rattle.curve.specs.CurveValue.{Curve}
-use Rattle.task_sheet.specs.declared.tasks.PolicyKind.{PolicyKind}
-use Rattle.task_sheet.specs.declared.tasks.PolicyKind.TheVariants.{Fp, Edf, Fifo}
 use Rattle.task_sheet.specs.declared.tasks.SupplySpec.{SupplySpec}
 use Rattle.task_sheet.specs.declared.tasks.SupplySpec.TheVariants.{Unit as Whole, Promised}
 use Rattle.task_sheet.specs.declared.tasks.Cut.{Cut}
 use Rattle.task_sheet.specs.declared.tasks.Cut.TheVariants.{Full, Never, Fixed, Floating}
 use Rattle.task_sheet.specs.declared.tasks.Task.{Task}
 use Rattle.task_sheet.specs.SheetParts.{SheetParts}
+use Rattle.task_sheet.specs.Words.{policy_word}
 
 -- the members with this value at a key, in the order of the keys
 abbrev pub put : List ℕ → Data → Members → Members
@@ -47,11 +46,6 @@ task_data t =
     (member (codes "name") (string t.name)
     (member (codes "preemption") (cut_data t.cut)
     (member (codes "priority") (number_data t.priority) no_members))))))
-
-abbrev pub policy_word : PolicyKind → List ℕ
-policy_word Fp = codes "fp"
-policy_word Edf = codes "edf"
-policy_word Fifo = codes "fifo"
 
 abbrev pub promise_data : ℕ → List ℕ → Data
 promise_data horizon times = table (member (codes "horizon") (number_data horizon) (member (codes "times") (array_data number_data times) no_members))

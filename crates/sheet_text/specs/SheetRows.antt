@@ -9,6 +9,7 @@ use Rattle.task_sheet.specs.declared.refusal.Field.TheVariants as fields
 use Rattle.task_sheet.specs.declared.refusal.SheetRefusal.{SheetRefusal}
 use Rattle.task_sheet.specs.declared.refusal.SheetRefusal.TheVariants.{Text, Kind, Range}
 use Rattle.task_sheet.specs.SheetParts.{SheetParts}
+use Rattle.task_sheet.specs.Words.{policy_word}
 use Rattle.task_sheet.specs.Refusing.{◌>>=◌, holds, present}
 use Rattle.sheet_text.specs.Documents.{document_of, keys_rule, needed_rule, items_count}
 use Rattle.sheet_text.specs.SupplyRows.{supplied_rule}
@@ -21,9 +22,9 @@ sheet_keys = codes "policy" ∷ codes "supply" ∷ codes "task" ∷ []
 -- the policy of a word
 abbrev pub policy_named : List ℕ → Option PolicyKind
 policy_named word =
-    if bytes_eq word (codes "fp") then Some Fp
-    else if bytes_eq word (codes "edf") then Some Edf
-    else if bytes_eq word (codes "fifo") then Some Fifo
+    if bytes_eq word (policy_word Fp) then Some Fp
+    else if bytes_eq word (policy_word Edf) then Some Edf
+    else if bytes_eq word (policy_word Fifo) then Some Fifo
     else None
 
 -- a policy is a word of these

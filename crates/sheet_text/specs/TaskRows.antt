@@ -1,4 +1,4 @@
-use Rattle.std.specs.Prelude.{ℕ, not, List, [], ◌∷◌, ◌++◌, map, length, codes, Option, Some, None, Result, Ok, Err, bytes_eq}
+use Rattle.std.specs.Prelude.{ℕ, pos, not, List, [], ◌∷◌, ◌++◌, map, length, codes, Option, Some, None, Result, Ok, Err, bytes_eq}
 use Rattle.std.specs.List.{list_any}
 use Rattle.toml.specs.Data.{Data, string, Items, no_items, item, get}
 use Rattle.task_sheet.specs.declared.tasks.PolicyKind.{PolicyKind}
@@ -38,7 +38,7 @@ abbrev pub priority_rule : PolicyKind → Place → Option Data → Result ℕ S
 priority_rule policy place (Some d) = whole_rule place fields.Priority 0 1000000000 d
 priority_rule policy place None = unsaid_priority policy place
 
--- task n, after tasks of these names
+-- task n, after tasks of these names; no task has a jitter or a priority point
 unfoldable pub task_of : PolicyKind → ℕ → List (List ℕ) → Data → Result Task SheetRefusal
 task_of policy n names d = do
   known ← keys_rule task_keys (places.Task n) d
@@ -49,7 +49,7 @@ task_of policy n names d = do
   its_priority ← priority_rule policy (places.Task n) (get (codes "priority") d)
   its_curve ← arrivals_rule n (get (codes "period") d) (get (codes "curve") d)
   its_cut ← preemption_rule n its_cost (get (codes "preemption") d)
-  Ok (record { name = its_name; cost = its_cost; deadline = its_deadline; priority = its_priority; curve = its_curve; cut = its_cut })
+  Ok (record { name = its_name; cost = its_cost; deadline = its_deadline; priority = its_priority; jitter = 0; point = pos 0; curve = its_curve; cut = its_cut })
 
 -- the names of some tasks
 abbrev pub names_of : List Task → List (List ℕ)

@@ -45,7 +45,13 @@ pub fn positive(value: &Value, key: &str, place: Place, field: Field) -> Result<
     ensures within { IfOk result (λ n. is_between 1 1000000000 n ≡ true) }
     ensures gives { result ≡ positive_rule key.now place field (view value.now) }
 {
-    whole(needed_value(value, key, place, field)?, place, field, 1, GREATEST)
+    whole(
+        needed_value(value, key, place, field)?,
+        place,
+        field,
+        1,
+        GREATEST,
+    )
 }
 
 fn natural(n: i64) -> u64

@@ -6,13 +6,13 @@ ghost use Rattle.toml.specs.View.{view, table_view};
 ghost use Rattle.curve.specs.Validity.{is_step};
 ghost use Rattle.task_sheet.specs.Rules.{are_in_range};
 ghost use Rattle.task_sheet.specs.Sheets.{IsPromise, IsTask, IsValidSheet};
-ghost use Rattle.sheet_text.specs.Printed.{put as put_of, array_data, number_data, step_data, curve_data, cut_data, task_data, policy_word as policy_word_of, promise_data, put_promise as put_promise_of, sheet_data};
+ghost use Rattle.sheet_text.specs.Printed.{put as put_of, array_data, number_data, step_data, curve_data, cut_data, task_data, promise_data, put_promise as put_promise_of, sheet_data};
 ghost use Rattle.sheet_text.specs.Documents.{document_of};
 ghost use Rattle.sheet_text.specs.SheetRows.{sheet_of_text};
 
 use curve::{Prefix, Step};
 use std::alloc::{AllocError, Global};
-use task_sheet::{Cut, PolicyKind, Sheet, SupplySpec, Task};
+use task_sheet::{Cut, Sheet, SupplySpec, Task};
 use toml::{Table, Value};
 
 fn put(alloc: Global, table: &mut Table, key: &str, value: Value) -> Result<(), AllocError>
@@ -154,16 +154,6 @@ fn put_promise(alloc: Global, table: &mut Table, supply: &SupplySpec) -> Result<
     }
 }
 
-fn policy_word(policy: PolicyKind) -> &'static str
-    ensures { result.now ≡ policy_word_of policy }
-{
-    match policy {
-        PolicyKind::Fp => "fp",
-        PolicyKind::Edf => "edf",
-        PolicyKind::Fifo => "fifo",
-    }
-}
-
 fn sheet_table(alloc: Global, sheet: &Sheet) -> Result<Table, AllocError>
     ensures data { IfOk result (λ t. table_view t ≡ sheet_data sheet.now) }
     ensures valid { OnOk result (IsValidSheet sheet.now) }
@@ -173,7 +163,7 @@ fn sheet_table(alloc: Global, sheet: &Sheet) -> Result<Table, AllocError>
         alloc,
         &mut table,
         "policy",
-        Value::string(alloc, policy_word(sheet.policy()))?,
+        Value::string(alloc, sheet.policy().word())?,
     )?;
     put(alloc, &mut table, "task", tasks_value(alloc, sheet)?)?;
     put_promise(alloc, &mut table, sheet.supply())?;

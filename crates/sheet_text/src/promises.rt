@@ -40,7 +40,11 @@ fn promise_of(alloc: Global, value: &Value) -> Result<SupplySpec, SheetRefusal>
     check_table(value, Place::Top, Field::Supply)?;
     check_keys(value, &["horizon", "times"], place)?;
     let horizon = positive(value, "horizon", place, Field::Horizon)?;
-    promise_from(alloc, horizon, needed_value(value, "times", place, Field::Times)?)
+    promise_from(
+        alloc,
+        horizon,
+        needed_value(value, "times", place, Field::Times)?,
+    )
 }
 
 /// What a document promises of the processor.

@@ -17,11 +17,14 @@ use toml::Value;
 fn policy_named(word: &str) -> Option<PolicyKind>
     ensures { result ≡ policy_named_of word.now }
 {
-    match word {
-        "fp" => Some(PolicyKind::Fp),
-        "edf" => Some(PolicyKind::Edf),
-        "fifo" => Some(PolicyKind::Fifo),
-        _ => None,
+    if word == PolicyKind::Fp.word() {
+        Some(PolicyKind::Fp)
+    } else if word == PolicyKind::Edf.word() {
+        Some(PolicyKind::Edf)
+    } else if word == PolicyKind::Fifo.word() {
+        Some(PolicyKind::Fifo)
+    } else {
+        None
     }
 }
 

@@ -133,7 +133,12 @@ fn task_of(
 {
     let place = Place::Task(n);
     check_keys(value, &TASK_KEYS, place)?;
-    let name = name_of(alloc, needed_value(value, "name", place, Field::Name)?, n, names)?;
+    let name = name_of(
+        alloc,
+        needed_value(value, "name", place, Field::Name)?,
+        n,
+        names,
+    )?;
     let cost = positive(value, "cost", place, Field::Cost)?;
     let deadline = positive(value, "deadline", place, Field::Deadline)?;
     let priority = priority_of(policy, place, value)?;
@@ -144,6 +149,8 @@ fn task_of(
         cost,
         deadline,
         priority,
+        jitter: 0,
+        point: 0,
         curve,
         cut,
     })

@@ -4,10 +4,9 @@ use Rattle.std.proofs.lemmas.Bool.{cases_Bool, cases_lt, and_parts, eqb-true}
 use Rattle.std.proofs.lemmas.Bool.Decides.{nat_tests}
 use Rattle.curve.specs.Curves.{alpha_of}
 use Rattle.curve.proofs.CurveFacts.{alpha_mono}
-use Rattle.task_sheet.specs.Sheets.{task_at}
+use Rattle.task_sheet.specs.Sheets.{task_at, IsOf, IsTimely}
 use Rattle.task_sheet.specs.declared.tasks.Job.{Job}
 use Rattle.policy.specs.Keys.{key_le}
-use Rattle.policy.specs.PolicyLaws.{IsOf}
 use Rattle.run_model.specs.declared.run.Run.{Run}
 use Rattle.run_model.specs.declared.run.Tick.TheVariants.{Runs}
 use Rattle.run_model.specs.Runs.{job_at, tick_at, service_of, ticks_in, IsPending}
@@ -16,9 +15,18 @@ use Rattle.simulated_run.specs.SimulatedRun.{World, with_job}
 use Rattle.simulated_run.proofs.RunFacts.{job_kept, job_new, jobs_more, arrivals_more, arrivals_le, service_unlisted}
 use Rattle.simulated_run.proofs.Soundness.{IsLawful, IsSound, HasRoom}
 
-module _ (w : World) (laws : IsLawful w) (t : ℕ) (run : Run) (sound : IsSound w t run) (j : Job) (of : IsOf w.sheet j) (at_t : j.arrival ≡ t) (fits : w.cuts.fits (task_at w.sheet j.task) j ≡ true) where
+module _ (w : World) (laws : IsLawful w) (t : ℕ) (run : Run) (sound : IsSound w t run) (j : Job) (of : IsOf w.sheet j)
+    (at_t : j.arrival ≡ t) (prompt : j.release ≡ j.arrival) (fits : w.cuts.fits (task_at w.sheet j.task) j ≡ true) where
+  timely : IsTimely w.sheet j
+  timely = record { after = omega arith; soon = omega arith }
+
+  -- no job so far is released later
+  released_last : (k : ℕ) → k < length run.jobs → (job_at run k).release ≤ j.release
+  released_last k b = omega (arith, sound.prompt k b, sound.early k b)
+
   -- what holds of the jobs so far, and of the new one
-  each : (P : ℕ → Job → Type 0) → ((k : ℕ) → k < length run.jobs → P k (job_at run k)) → P (length run.jobs) j → (k : ℕ) → k < length (with_job run j).jobs → P k (job_at (with_job run j) k)
+  each : (P : ℕ → Job → Type 0) → ((k : ℕ) → k < length run.jobs → P k (job_at run k)) → P (length run.jobs) j →
+      (k : ℕ) → k < length (with_job run j).jobs → P k (job_at (with_job run j) k)
   each P old new k b = elim (cases_lt k (length run.jobs)) [
     | inl c ↦ subst (P k) (sym (job_kept run j k c)) (old k c)
     | inr c ↦
@@ -27,7 +35,9 @@ module _ (w : World) (laws : IsLawful w) (t : ℕ) (run : Run) (sound : IsSound 
   ]
 
   unserved : (u : ℕ) → u ≤ t → service_of run (length run.jobs) u ≡ 0
-  unserved u h = service_unlisted run (length run.jobs) (length run.jobs) u (omega (arith, sound.now)) (λ v m b e. (sound.complies.valid.ticks v m (omega (arith, sound.now)) e).pending.listed) (omega arith)
+  unserved u h =
+      service_unlisted run (length run.jobs) (length run.jobs) u (omega (arith, sound.now))
+      (λ v m b e. (sound.complies.valid.ticks v m (omega (arith, sound.now)) e).pending.listed) (omega arith)
 
   at_new : (u : ℕ) → u ≤ t → w.cuts.cuttable (task_at w.sheet j.task) j (service_of run (length run.jobs) u) ≡ true
   at_new u h = ap (w.cuts.cuttable (task_at w.sheet j.task) j) (unserved u h) ∙ (laws.cuts j.task of).cut_first j fits
@@ -36,19 +46,28 @@ module _ (w : World) (laws : IsLawful w) (t : ℕ) (run : Run) (sound : IsSound 
   old_pending : (k u : ℕ) → u < t → IsPending (with_job run j) k u → IsPending run k u
   unfolding with_job service_of
   old_pending k u h p = elim (cases_lt k (length run.jobs)) [
-    | inl c ↦ record { listed = c; arrived = subst (λ (v : Job). v.arrival ≤ u) (job_kept run j k c) p.arrived; not_done = subst (λ (v : Job). service_of run k u < v.cost) (job_kept run j k c) p.not_done }
+    | inl c ↦
+        record {
+          listed = c;
+          released = subst (λ (v : Job). v.release ≤ u) (job_kept run j k c) p.released;
+          not_done = subst (λ (v : Job). service_of run k u < v.cost) (job_kept run j k c) p.not_done;
+        }
     | inr c ↦
         let l = p.listed in
-        let a = p.arrived in
+        let a = p.released in
         let at : k ≡ length run.jobs = omega (arith, jobs_more run j) in
-        absurd (omega (arith, ap (λ i. (job_at (with_job run j) i).arrival) at, ap (λ (v : Job). v.arrival) (job_new run j (length run.jobs) refl)))
+        absurd (omega (arith, timely.after, ap (λ i. (job_at (with_job run j) i).release) at, ap (λ (v : Job). v.release) (job_new run j (length run.jobs) refl)))
   ]
 
   still_pending : (k u : ℕ) → IsPending run k u → IsPending (with_job run j) k u
   unfolding with_job service_of
   still_pending k u p =
       let l = p.listed in
-      record { listed = omega (arith, jobs_more run j); arrived = subst (λ (v : Job). v.arrival ≤ u) (sym (job_kept run j k l)) p.arrived; not_done = subst (λ (v : Job). service_of run k u < v.cost) (sym (job_kept run j k l)) p.not_done }
+      record {
+        listed = omega (arith, jobs_more run j);
+        released = subst (λ (v : Job). v.release ≤ u) (sym (job_kept run j k l)) p.released;
+        not_done = subst (λ (v : Job). service_of run k u < v.cost) (sym (job_kept run j k l)) p.not_done;
+      }
 
   job_of_tick : (u k : ℕ) → u < t → tick_at run u ≡ Runs k → job_at (with_job run j) k ≡ job_at run k
   job_of_tick u k h e = job_kept run j k (sound.complies.valid.ticks u k (omega (arith, sound.now)) e).pending.listed
@@ -61,9 +80,19 @@ module _ (w : World) (laws : IsLawful w) (t : ℕ) (run : Run) (sound : IsSound 
         let of_o : j.task ≡ o = eqb-true j.task o p.0 in
         let in_window : s ≤ t = grind (arith, nat_tests) in
         let past : t < u = grind (arith, nat_tests) in
-        let fewer : arrivals_of run j.task s u ≤ arrivals_of run j.task s (suc t) = arrivals_le run j.task s u s (suc t) (λ k c e. (let a = sound.early k c in grind (arith, nat_tests))) in
-        let more : alpha_of (task_at w.sheet j.task).curve (t + 1 - s) ≤ alpha_of (task_at w.sheet j.task).curve (u - s) = alpha_mono (task_at w.sheet j.task).curve (laws.sheet.each j.task of).curve (t + 1 - s) (u - s) (omega arith) in
-        let one : arrivals_of (with_job run j) j.task s u ≤ alpha_of (task_at w.sheet j.task).curve (u - s) = omega (arith, arrivals_more run j j.task s u, fewer, more, room s in_window, ap (λ (v : Bool). cond {A = ℕ} v 1 0) (subst (λ i. arrives_in i s u j ≡ true) (sym of_o) is)) in
+        let fewer : arrivals_of run j.task s u ≤ arrivals_of run j.task s (suc t) =
+        arrivals_le run j.task s u s (suc t) (λ k c e. (let a = sound.early k c in grind (arith, nat_tests))) in
+        let more : alpha_of (task_at w.sheet j.task).curve (t + 1 - s) ≤ alpha_of (task_at w.sheet j.task).curve (u - s) =
+        alpha_mono (task_at w.sheet j.task).curve (laws.sheet.each j.task of).curve (t + 1 - s) (u - s) (omega arith) in
+        let one : arrivals_of (with_job run j) j.task s u ≤ alpha_of (task_at w.sheet j.task).curve (u - s) =
+        omega (
+          arith,
+          arrivals_more run j j.task s u,
+          fewer,
+          more,
+          room s in_window,
+          ap (λ (v : Bool). cond {A = ℕ} v 1 0) (subst (λ i. arrives_in i s u j ≡ true) (sym of_o) is),
+        ) in
         subst (λ i. arrivals_of (with_job run j) i s u ≤ alpha_of (task_at w.sheet i).curve (u - s)) of_o one
   ]
 
@@ -73,17 +102,30 @@ module _ (w : World) (laws : IsLawful w) (t : ℕ) (run : Run) (sound : IsSound 
   sound_job room = record {
     now = sound.now;
     early = each (λ k v. v.arrival ≤ t) sound.early (omega arith);
+    prompt = each (λ k v. v.release ≡ v.arrival) sound.prompt prompt;
     complies = record {
       valid = record {
         jobs = λ k b. record {
           task = each (λ i v. IsOf w.sheet v) (λ i c. (sound.complies.valid.jobs i c).task) of k b;
           fit = each (λ i v. w.cuts.fits (task_at w.sheet v.task) v ≡ true) (λ i c. (sound.complies.valid.jobs i c).fit) fits k b;
         };
+        releases = λ k b. record {
+          timely = each (λ i v. IsTimely w.sheet v) (λ i c. (sound.complies.valid.releases i c).timely) timely k b;
+          order = λ n c. each (λ i v. (job_at (with_job run j) n).task ≡ v.task → (job_at (with_job run j) n).arrival < v.arrival → (job_at (with_job run j) n).release ≤ v.release)
+              (λ i b. each (λ m v. v.task ≡ (job_at run i).task → v.arrival < (job_at run i).arrival → v.release ≤ (job_at run i).release)
+              (λ m c same less. (sound.complies.valid.releases i b).order m c same less)
+              (λ same less. absurd (omega (arith, sound.early i b))) n c)
+              (each (λ m v. v.task ≡ j.task → v.arrival < j.arrival → v.release ≤ j.release) (λ m c same less. released_last m c) (λ same less. absurd (omega arith)) n c) k b;
+        };
         ticks = λ u k h e. record {
           pending = still_pending k u (sound.complies.valid.ticks u k h e).pending;
           in_order = λ n b. each (λ i v. v.task ≡ (job_at (with_job run j) k).task → v.arrival < (job_at (with_job run j) k).arrival → v.cost ≤ service_of run i u)
-              (λ i c same less. (sound.complies.valid.ticks u k h e).in_order i c (same ∙ ap (λ (v : Job). v.task) (job_of_tick u k (omega (arith, sound.now)) e)) (omega (arith, less, ap (λ (v : Job). v.arrival) (job_of_tick u k (omega (arith, sound.now)) e))))
-              (λ same less. absurd (omega (arith, less, ap (λ (v : Job). v.arrival) (job_of_tick u k (omega (arith, sound.now)) e), sound.early k (sound.complies.valid.ticks u k h e).pending.listed))) n b;
+              (λ i c same less. (sound.complies.valid.ticks u k h e).in_order i c
+              (same ∙ ap (λ (v : Job). v.task) (job_of_tick u k (omega (arith, sound.now)) e))
+              (omega (arith, less, ap (λ (v : Job). v.arrival) (job_of_tick u k (omega (arith, sound.now)) e))))
+              (λ same less. absurd
+              (omega (arith, less, ap (λ (v : Job). v.arrival) (job_of_tick u k (omega (arith, sound.now)) e), sound.early k (sound.complies.valid.ticks u k h e).pending.listed)))
+              n b;
         };
       };
       curves = within_more room;
@@ -101,12 +143,18 @@ module _ (w : World) (laws : IsLawful w) (t : ℕ) (run : Run) (sound : IsSound 
           subst (λ (v : Job). key_le (w.policy.key w.sheet v) (w.policy.key w.sheet (job_at (with_job run j) n)) ≡ true) (sym same_k) half
           );
     };
-    ahead = λ k n bk bn. each (λ i v. 0 < service_of run i t → (job_at (with_job run j) n).task ≡ v.task → (job_at (with_job run j) n).arrival < v.arrival → (job_at (with_job run j) n).cost ≤ service_of run n t)
+    ahead =
+        λ k n bk bn. each
+        (λ i v. 0 < service_of run i t → (job_at (with_job run j) n).task ≡ v.task → (job_at (with_job run j) n).arrival <
+        v.arrival → (job_at (with_job run j) n).cost ≤ service_of run n t)
         (λ i b p. each (λ m v. v.task ≡ (job_at run i).task → v.arrival < (job_at run i).arrival → v.cost ≤ service_of run m t)
         (λ m c same less. sound.ahead i m b c p same less)
         (λ same less. absurd (omega (arith, sound.early i b))) n bn)
         (λ p same less. absurd (omega (arith, unserved t (omega arith)))) k bk;
-    single = λ k n bk bn. each (λ i v. w.cuts.cuttable (task_at w.sheet v.task) v (service_of run i t) ≡ false → w.cuts.cuttable (task_at w.sheet (job_at (with_job run j) n).task) (job_at (with_job run j) n) (service_of run n t) ≡ false → i ≡ n)
+    single =
+        λ k n bk bn. each
+        (λ i v. w.cuts.cuttable (task_at w.sheet v.task) v (service_of run i t) ≡ false → w.cuts.cuttable
+        (task_at w.sheet (job_at (with_job run j) n).task) (job_at (with_job run j) n) (service_of run n t) ≡ false → i ≡ n)
         (λ i b f. each (λ m v. w.cuts.cuttable (task_at w.sheet v.task) v (service_of run m t) ≡ false → i ≡ m)
         (λ m c g. sound.single i m b c f g)
         (λ g. absurd (let t = at_new t (omega arith) in cc)) n bn)

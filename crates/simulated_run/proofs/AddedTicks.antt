@@ -13,8 +13,9 @@ use Rattle.run_model.specs.declared.run.Tick.TheVariants.{Off, Idle, Runs}
 use Rattle.run_model.specs.Runs.{job_at, tick_at, runs, is_on, service_of, ticks_in, is_pending, IsPending, IsDone}
 use Rattle.run_model.proofs.PendingFacts.{pending_from, pending_to}
 use Rattle.run_model.proofs.ServiceFacts.{runs_tells, tick_cases}
-use Rattle.schedule_laws.specs.Compliance.{arrivals_of, can_cut, JobFits, MayRun, IsSupplied, IsWithinCurves}
-use Rattle.schedule_laws.proofs.PrefixFacts.{begun_where_uncut}
+use Rattle.schedule_laws.specs.Compliance.{arrivals_of, can_cut, JobFits, IsReleased, MayRun, IsSupplied, IsWithinCurves}
+use Rattle.schedule_laws.proofs.PrefixFacts.{released_before, begun_where_uncut}
+use Rattle.simulated_run.specs.Laws.{IsPrompt}
 use Rattle.simulated_run.specs.SimulatedRun.{World, with_tick, choice, chosen, inside_segment, most_urgent, may_be_off, comes_before}
 use Rattle.simulated_run.proofs.OrderFacts.{comes_itself, comes_chain, later_key, earlier_first}
 use Rattle.simulated_run.proofs.RunFacts.{ticks_more, tick_kept, tick_new, service_kept, service_new, window_kept, window_new}
@@ -26,25 +27,26 @@ pub record MayFollow (w : World) (t : ℕ) (run : Run) (y : Tick) : Type 0 where
   pub idle : y ≡ Idle → (k : ℕ) → IsPending run k t → ⊥
   pub inside : y ≢ Off → (k : ℕ) → k < length run.jobs → can_cut w.cuts w.sheet run k t ≡ false → y ≡ Runs k
   pub may_run : (k : ℕ) → y ≡ Runs k → MayRun run k t
-  pub policy : (k n : ℕ) → y ≡ Runs k → can_cut w.cuts w.sheet run k t ≡ true → IsPending run n t → key_le (w.policy.key w.sheet (job_at run k)) (w.policy.key w.sheet (job_at run n)) ≡ true
+  pub policy : (k n : ℕ) → y ≡ Runs k → can_cut w.cuts w.sheet run k t ≡ true → IsPending run n t →
+      key_le (w.policy.key w.sheet (job_at run k)) (w.policy.key w.sheet (job_at run n)) ≡ true
 
 module _ (w : World) (laws : IsLawful w) (t : ℕ) (run : Run) (sound : IsSound w t run) where
   cut_laws : (k : ℕ) → k < length run.jobs → IsLawfulCut w.cuts (task_at w.sheet (job_at run k).task)
   cut_laws k b = laws.cuts (job_at run k).task (sound.complies.valid.jobs k b).task
 
   -- a job inside a segment has begun and is not done
+  pub inside_served : (k : ℕ) → k < length run.jobs → can_cut w.cuts w.sheet run k t ≡ false → 0 < service_of run k t
+  inside_served k b f = begun_where_uncut w.cuts w.sheet run k t (cut_laws k b) (sound.complies.valid.jobs k b).fit f
+
   pub inside_pending : (k : ℕ) → k < length run.jobs → can_cut w.cuts w.sheet run k t ≡ false → IsPending run k t
   inside_pending k b f = record {
     listed = b;
-    arrived = sound.early k b;
+    released = omega (arith, released_before w.cuts w.sheet run sound.complies.valid k t (omega (arith, sound.now)) (inside_served k b f));
     not_done = elim (cases_lt (service_of run k t) (job_at run k).cost) [
       | inl l ↦ l
       | inr l ↦ absurd (let c = (cut_laws k b).cut_last (job_at run k) (service_of run k t) (sound.complies.valid.jobs k b).fit l in cc)
     ];
   }
-
-  pub inside_served : (k : ℕ) → k < length run.jobs → can_cut w.cuts w.sheet run k t ≡ false → 0 < service_of run k t
-  inside_served k b f = begun_where_uncut w.cuts w.sheet run k t (cut_laws k b) (sound.complies.valid.jobs k b).fit f
 
   follows_inside : (k : ℕ) → k < length run.jobs → can_cut w.cuts w.sheet run k t ≡ false → MayFollow w t run (Runs k)
   follows_inside k b f = record {
@@ -58,15 +60,19 @@ module _ (w : World) (laws : IsLawful w) (t : ℕ) (run : Run) (sound : IsSound 
     policy = λ i n e cut p. (let s : k ≡ i = cc in let g = subst (λ v. can_cut w.cuts w.sheet run v t ≡ true) (sym s) cut in absurd (cc));
   }
 
-  follows_urgent : (k : ℕ) → k < length run.jobs → is_pending run k t ≡ true → most_urgent w run t ≡ Some k → ((i : ℕ) → i < length run.jobs → can_cut w.cuts w.sheet run i t ≡ true) → MayFollow w t run (Runs k)
+  follows_urgent : (k : ℕ) → k < length run.jobs → is_pending run k t ≡ true → most_urgent w run t ≡ Some k →
+      ((i : ℕ) → i < length run.jobs → can_cut w.cuts w.sheet run i t ≡ true) → MayFollow w t run (Runs k)
   unfolding most_urgent
   follows_urgent k b p is cuts =
-      let is_first : (i : ℕ) → IsPending run i t → comes_before w run i k ≡ false = λ i q. best_first (λ i. is_pending run i t) (comes_before w run) (length run.jobs) k i (comes_chain w run) (comes_itself w run) is q.listed (pending_to run i t q) in
+      let is_first : (i : ℕ) → IsPending run i t → comes_before w run i k ≡ false =
+      λ i q. best_first (λ i. is_pending run i t) (comes_before w run) (length run.jobs) k i (comes_chain w run)
+      (comes_itself w run) is q.listed (pending_to run i t q) in
       let pends : IsPending run k t = pending_from run k t p in
-      let orders : (n : ℕ) → n < length run.jobs → (job_at run n).task ≡ (job_at run k).task → (job_at run n).arrival < (job_at run k).arrival → IsDone run n t = λ n c same less. elim (cases_lt (service_of run n t) (job_at run n).cost) [
+      let orders : (n : ℕ) → n < length run.jobs → (job_at run n).task ≡ (job_at run k).task → (job_at run n).arrival < (job_at run k).arrival → IsDone run n t =
+      λ n c same less. elim (cases_lt (service_of run n t) (job_at run n).cost) [
         | inr l ↦ l
         | inl l ↦
-            let q : IsPending run n t = record { listed = c; arrived = omega (arith, sound.early n c); not_done = l } in
+            let q : IsPending run n t = record { listed = c; released = omega (arith, (sound.complies.valid.releases k b).order n c same less, pends.released); not_done = l } in
             let le = laws.policy.in_order (job_at run n) (job_at run k) (sound.complies.valid.jobs n c).task (sound.complies.valid.jobs k b).task same (omega arith) in
             let first : comes_before w run n k ≡ true = earlier_first w run n k le same less in
             let g = is_first n q in
@@ -77,7 +83,9 @@ module _ (w : World) (laws : IsLawful w) (t : ℕ) (run : Run) (sound : IsSound 
         idle = λ e. absurd (cc);
         inside = λ on i c g. absurd (let z = cuts i c in cc);
         may_run = λ i e. (let s : k ≡ i = cc in subst (λ v. MayRun run v t) s (record { pending = pends; in_order = orders }));
-        policy = λ i n e cut q. (let s : k ≡ i = cc in subst (λ v. key_le (w.policy.key w.sheet (job_at run v)) (w.policy.key w.sheet (job_at run n)) ≡ true) s (later_key w run k n (is_first n q)));
+        policy =
+            λ i n e cut q.
+            (let s : k ≡ i = cc in subst (λ v. key_le (w.policy.key w.sheet (job_at run v)) (w.policy.key w.sheet (job_at run n)) ≡ true) s (later_key w run k n (is_first n q)));
       }
 
   pub choice_follows : MayFollow w t run (choice w run t)
@@ -113,7 +121,8 @@ module _ (w : World) (laws : IsLawful w) (t : ℕ) (run : Run) (sound : IsSound 
 
   module _ (y : Tick) (follows : MayFollow w t run y) where
     -- what holds at the ticks so far, and at the new one
-    at_each : (P : ℕ → Tick → Type 0) → ((u : ℕ) → u < length run.ticks → P u (tick_at run u)) → P t y → (u : ℕ) → u < length (with_tick run y).ticks → P u (tick_at (with_tick run y) u)
+    at_each : (P : ℕ → Tick → Type 0) → ((u : ℕ) → u < length run.ticks → P u (tick_at run u)) → P t y → (u : ℕ) →
+        u < length (with_tick run y).ticks → P u (tick_at (with_tick run y) u)
     at_each P old new u b = elim (cases_lt u t) [
       | inl c ↦ subst (P u) (sym (tick_kept run y u (omega (arith, sound.now)))) (old u (omega (arith, sound.now)))
       | inr c ↦
@@ -129,11 +138,11 @@ module _ (w : World) (laws : IsLawful w) (t : ℕ) (run : Run) (sound : IsSound 
 
     there : (k u : ℕ) → u ≤ t → IsPending run k u → IsPending (with_tick run y) k u
     unfolding with_tick
-    there k u h p = record { listed = p.listed; arrived = p.arrived; not_done = omega (arith, p.not_done, same k u h) }
+    there k u h p = record { listed = p.listed; released = p.released; not_done = omega (arith, p.not_done, same k u h) }
 
     back : (k u : ℕ) → u ≤ t → IsPending (with_tick run y) k u → IsPending run k u
     unfolding with_tick
-    back k u h p = record { listed = p.listed; arrived = p.arrived; not_done = omega (arith, p.not_done, same k u h) }
+    back k u h p = record { listed = p.listed; released = p.released; not_done = omega (arith, p.not_done, same k u h) }
 
     done_there : (n u : ℕ) → u ≤ t → IsDone run n u → IsDone (with_tick run y) n u
     unfolding with_tick
@@ -144,7 +153,8 @@ module _ (w : World) (laws : IsLawful w) (t : ℕ) (run : Run) (sound : IsSound 
     cut_same k u h = ap (w.cuts.cuttable (task_at w.sheet (job_at run k).task) (job_at run k)) (same k u h)
 
     -- not cut after the tick: the job that runs, or not cut before it
-    after_tick : (k : ℕ) → k < length run.jobs → can_cut w.cuts w.sheet (with_tick run y) k (suc t) ≡ false → (y ≡ Runs k) ⊎ (can_cut w.cuts w.sheet run k t ≡ false)
+    after_tick : (k : ℕ) → k < length run.jobs → can_cut w.cuts w.sheet (with_tick run y) k (suc t) ≡ false →
+        (y ≡ Runs k) ⊎ (can_cut w.cuts w.sheet run k t ≡ false)
     unfolding with_tick
     after_tick k b f = elim (cases_Bool (runs k y)) [
       | inl r ↦ inl (runs_tells k y r)
@@ -163,10 +173,13 @@ module _ (w : World) (laws : IsLawful w) (t : ℕ) (run : Run) (sound : IsSound 
         let d : t + 1 - a ≡ t - a + 1 = omega arith in
         let e : t + 1 - a ≡ suc (t - a) = omega arith in
         let past : w.sbf (t - a) ≤ ticks_in is_on run a (t - a) = sound.complies.supplied a t h (omega (arith, sound.now)) in
-        let now : ticks_in is_on (with_tick run y) a (t + 1 - a) ≡ ticks_in is_on run a (t - a) + cond (is_on y) 1 0 = ap (ticks_in is_on (with_tick run y) a) e ∙ window_new run y is_on a (t - a) (omega (arith, sound.now)) in
+        let now : ticks_in is_on (with_tick run y) a (t + 1 - a) ≡ ticks_in is_on run a (t - a) + cond (is_on y) 1 0 =
+        ap (ticks_in is_on (with_tick run y) a) e ∙ window_new run y is_on a (t - a) (omega (arith, sound.now)) in
         elim (tick_cases y) [
           | inl off ↦
-              let may : w.sbf (t + 1 - a) ≤ ticks_in is_on (with_tick run Off) a (t + 1 - a) = leb-true _ _ (all_parts (λ s. nat_le (w.sbf (t + 1 - s)) (ticks_in is_on (with_tick run Off) s (t + 1 - s))) (t + 1) a (follows.off off) (omega arith)) in
+              let may : w.sbf (t + 1 - a) ≤ ticks_in is_on (with_tick run Off) a (t + 1 - a) =
+              leb-true _ _
+              (all_parts (λ s. nat_le (w.sbf (t + 1 - s)) (ticks_in is_on (with_tick run Off) s (t + 1 - s))) (t + 1) a (follows.off off) (omega arith)) in
               subst (λ x. w.sbf (t + 1 - a) ≤ ticks_in is_on (with_tick run x) a (t + 1 - a)) (sym off) may
           | inr (inl idle) ↦ omega (arith, laws.rises (t - a), past, now, ap w.sbf d, ap (λ (v : Tick). cond {A = ℕ} (is_on v) 1 0) idle)
           | inr (inr run) ↦ omega (arith, laws.rises (t - a), past, now, ap w.sbf d, ap (λ (v : Tick). cond {A = ℕ} (is_on v) 1 0) run.1)
@@ -187,13 +200,22 @@ module _ (w : World) (laws : IsLawful w) (t : ℕ) (run : Run) (sound : IsSound 
     unfolding with_tick
     old_job k b = b
 
-    old_keys : (k n : ℕ) → key_le (w.policy.key w.sheet (job_at run k)) (w.policy.key w.sheet (job_at run n)) ≡ true → key_le (w.policy.key w.sheet (job_at (with_tick run y) k)) (w.policy.key w.sheet (job_at (with_tick run y) n)) ≡ true
+    old_keys : (k n : ℕ) → key_le (w.policy.key w.sheet (job_at run k)) (w.policy.key w.sheet (job_at run n)) ≡ true →
+        key_le (w.policy.key w.sheet (job_at (with_tick run y) k)) (w.policy.key w.sheet (job_at (with_tick run y) n)) ≡ true
     unfolding with_tick
     old_keys k n h = h
 
     sound_early : (k : ℕ) → k < length (with_tick run y).jobs → (job_at (with_tick run y) k).arrival ≤ suc t
     unfolding with_tick
     sound_early k b = omega (arith, sound.early k b)
+
+    sound_prompt : IsPrompt (with_tick run y)
+    unfolding with_tick
+    sound_prompt = sound.prompt
+
+    sound_releases : (k : ℕ) → k < length (with_tick run y).jobs → IsReleased w.sheet (with_tick run y) k
+    unfolding with_tick
+    sound_releases k b = record { timely = (sound.complies.valid.releases k b).timely; order = (sound.complies.valid.releases k b).order }
 
     sound_jobs : (k : ℕ) → k < length (with_tick run y).jobs → JobFits w.cuts w.sheet (with_tick run y) k
     unfolding with_tick
@@ -212,16 +234,22 @@ module _ (w : World) (laws : IsLawful w) (t : ℕ) (run : Run) (sound : IsSound 
     old_arrival n k e = e
 
     may_run_there : (k u : ℕ) → u ≤ t → MayRun run k u → MayRun (with_tick run y) k u
-    may_run_there k u h m = record { pending = there k u h m.pending; in_order = λ n b same less. done_there n u h (m.in_order n (old_job n b) (old_task n k same) (old_arrival n k less)) }
+    may_run_there k u h m =
+        record { pending = there k u h m.pending; in_order = λ n b same less. done_there n u h (m.in_order n (old_job n b) (old_task n k same) (old_arrival n k less)) }
 
-    sound_ahead : (k n : ℕ) → k < length (with_tick run y).jobs → n < length (with_tick run y).jobs → 0 < service_of (with_tick run y) k (suc t) → (job_at (with_tick run y) n).task ≡ (job_at (with_tick run y) k).task → (job_at (with_tick run y) n).arrival < (job_at (with_tick run y) k).arrival → IsDone (with_tick run y) n (suc t)
+    sound_ahead : (k n : ℕ) → k < length (with_tick run y).jobs → n < length (with_tick run y).jobs →
+        0 < service_of (with_tick run y) k (suc t) →
+        (job_at (with_tick run y) n).task ≡ (job_at (with_tick run y) k).task →
+        (job_at (with_tick run y) n).arrival < (job_at (with_tick run y) k).arrival → IsDone (with_tick run y) n (suc t)
     unfolding with_tick
     sound_ahead k n b c p q less = elim (cases_Bool (runs k y)) [
       | inl r ↦ omega (arith, (follows.may_run k (runs_tells k y r)).in_order n c q less, grows n)
       | inr r ↦ omega (arith, sound.ahead k n b c (omega (arith, p, service_new run y k t sound.now, ap (λ (b : Bool). cond {A = ℕ} b 1 0) r)) q less, grows n)
     ]
 
-    sound_single : (k n : ℕ) → k < length (with_tick run y).jobs → n < length (with_tick run y).jobs → can_cut w.cuts w.sheet (with_tick run y) k (suc t) ≡ false → can_cut w.cuts w.sheet (with_tick run y) n (suc t) ≡ false → k ≡ n
+    sound_single : (k n : ℕ) → k < length (with_tick run y).jobs → n < length (with_tick run y).jobs →
+        can_cut w.cuts w.sheet (with_tick run y) k (suc t) ≡ false →
+        can_cut w.cuts w.sheet (with_tick run y) n (suc t) ≡ false → k ≡ n
     sound_single k n b c f g = elim (after_tick k (old_job k b) f) [
       | inl r ↦ elim (after_tick n (old_job n c) g) [
         | inl s ↦ cc
@@ -238,18 +266,31 @@ module _ (w : World) (laws : IsLawful w) (t : ℕ) (run : Run) (sound : IsSound 
     sound_tick = record {
       now = omega (arith, ticks_more run y, sound.now);
       early = sound_early;
+      prompt = sound_prompt;
       complies = record {
         valid = record {
           jobs = sound_jobs;
+          releases = sound_releases;
           ticks = λ u k h. at_each (λ i x. i ≤ t → x ≡ Runs k → MayRun (with_tick run y) k i)
               (λ i c l e. may_run_there k i l (sound.complies.valid.ticks i k c e))
               (λ l e. may_run_there k t l (follows.may_run k e)) u h (in_ticks u h);
         };
         curves = sound_curves;
         supplied = supply_more;
-        conserving = λ u k h e p. at_each (λ i x. x ≡ Idle → IsPending run k i → ⊥) (λ i c. sound.complies.conserving i k c) (λ e p. follows.idle e k p) u h e (back k u (in_ticks u h) p);
-        segments = λ u k h b on f. at_each (λ i x. x ≢ Off → can_cut w.cuts w.sheet run k i ≡ false → x ≡ Runs k) (λ i c. sound.complies.segments i k c (old_job k b)) (λ on f. follows.inside on k (old_job k b) f) u h on (sym (cut_same k u (in_ticks u h)) ∙ f);
-        policy = λ u k n h e c p. old_keys k n (at_each (λ i x. x ≡ Runs k → can_cut w.cuts w.sheet run k i ≡ true → IsPending run n i → key_le (w.policy.key w.sheet (job_at run k)) (w.policy.key w.sheet (job_at run n)) ≡ true) (λ i c. sound.complies.policy i k n c) (follows.policy k n) u h e (sym (cut_same k u (in_ticks u h)) ∙ c) (back n u (in_ticks u h) p));
+        conserving =
+            λ u k h e p. at_each (λ i x. x ≡ Idle → IsPending run k i → ⊥) (λ i c. sound.complies.conserving i k c)
+            (λ e p. follows.idle e k p) u h e (back k u (in_ticks u h) p);
+        segments =
+            λ u k h b on f. at_each (λ i x. x ≢ Off → can_cut w.cuts w.sheet run k i ≡ false → x ≡ Runs k)
+            (λ i c. sound.complies.segments i k c (old_job k b)) (λ on f. follows.inside on k (old_job k b) f) u h on
+            (sym (cut_same k u (in_ticks u h)) ∙ f);
+        policy =
+            λ u k n h e c p. old_keys k n
+            (at_each
+            (λ i x. x ≡ Runs k → can_cut w.cuts w.sheet run k i ≡ true → IsPending run n i → key_le
+            (w.policy.key w.sheet (job_at run k)) (w.policy.key w.sheet (job_at run n)) ≡ true)
+            (λ i c. sound.complies.policy i k n c) (follows.policy k n) u h e (sym (cut_same k u (in_ticks u h)) ∙ c)
+            (back n u (in_ticks u h) p));
       };
       ahead = sound_ahead;
       single = sound_single;

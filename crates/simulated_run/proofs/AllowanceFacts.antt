@@ -30,7 +30,9 @@ module _ (curve : Curve) (o t : ℕ) (run : Run) where
   -- more than a tight number are not admitted
   pub tight_refused : (n k : ℕ) → IsTight curve o t n run → n < k → admits curve o run t k ≡ false
   tight_refused n k tight h =
-      all_broken (λ s. nat_le (arrivals_of run o s t + k) (alpha_of curve (t + 1 - s))) (t + 1) tight.start (omega (arith, tight.within)) (lt-leb (arrivals_of run o tight.start t + k) (alpha_of curve (t + 1 - tight.start)) (omega (arith, tight.many)))
+      all_broken (λ s. nat_le (arrivals_of run o s t + k) (alpha_of curve (t + 1 - s))) (t + 1) tight.start
+      (omega (arith, tight.within))
+      (lt-leb (arrivals_of run o tight.start t + k) (alpha_of curve (t + 1 - tight.start)) (omega (arith, tight.many)))
 
   pub allowance_within : allowance_of curve o run t ≤ alpha_of curve 1
   unfolding allowance_of
@@ -55,4 +57,5 @@ module _ (curve : Curve) (o t : ℕ) (run : Run) where
   unfolding allowance_of
   allowance_is n fits tight =
       let e : t + 1 - t ≡ 1 = omega arith in
-      greatest_is (admits curve o run t) n (alpha_of curve 1) (omega (arith, fits.few t (omega arith), ap (alpha_of curve) e)) (inr (fits_admitted n fits)) (λ k a h. tight_refused n k tight a)
+      greatest_is (admits curve o run t) n (alpha_of curve 1) (omega (arith, fits.few t (omega arith), ap (alpha_of curve) e))
+      (inr (fits_admitted n fits)) (λ k a h. tight_refused n k tight a)

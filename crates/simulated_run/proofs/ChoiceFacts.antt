@@ -37,7 +37,8 @@ module _ (w : World) (run : Run) (t : ℕ) where
   inside_none e = (first_never (λ k. can_cut w.cuts w.sheet run k t) (length run.jobs) e).all
 
   -- the one job that cannot be cut
-  pub some_inside : (k : ℕ) → k < length run.jobs → can_cut w.cuts w.sheet run k t ≡ false → ((n : ℕ) → n < length run.jobs → n ≢ k → can_cut w.cuts w.sheet run n t ≡ true) → inside_segment w run t ≡ Some k
+  pub some_inside : (k : ℕ) → k < length run.jobs → can_cut w.cuts w.sheet run k t ≡ false →
+      ((n : ℕ) → n < length run.jobs → n ≢ k → can_cut w.cuts w.sheet run n t ≡ true) → inside_segment w run t ≡ Some k
   unfolding inside_segment
   some_inside k b f others = first_some (λ k. can_cut w.cuts w.sheet run k t) k (length run.jobs) b f (λ n h. others n (omega arith) (λ e. omega arith))
 
@@ -65,7 +66,8 @@ module _ (w : World) (run : Run) (t : ℕ) where
   pub some_urgent : (k : ℕ) → IsPending run k t → ((n : ℕ) → IsPending run n t → n ≢ k → comes_before w run k n ≡ true) → most_urgent w run t ≡ Some k
   unfolding most_urgent
   some_urgent k p first =
-      best_some (λ k. is_pending run k t) (comes_before w run) k (length run.jobs) p.listed (pending_to run k t p) (λ n b h ne. (let f = first n (pending_from run n t h) ne in (f, comes_once w run k n f)))
+      best_some (λ k. is_pending run k t) (comes_before w run) k (length run.jobs) p.listed (pending_to run k t p)
+      (λ n b h ne. (let f = first n (pending_from run n t h) ne in (f, comes_once w run k n f)))
 
   pub none_urgent : ((k : ℕ) → IsPending run k t → ⊥) → most_urgent w run t ≡ None
   unfolding most_urgent
@@ -81,17 +83,22 @@ module _ (sbf : ℕ → ℕ) (run : Run) (t : ℕ) (now : length run.ticks ≡ t
   pub off_tells : may_be_off sbf run t ≡ true → (s : ℕ) → s ≤ t → sbf (t + 1 - s) ≤ ticks_in is_on run s (t - s)
   unfolding may_be_off
   off_tells may s h =
-      let at : sbf (t + 1 - s) ≤ ticks_in is_on (with_tick run Off) s (t + 1 - s) = leb-true _ _ (all_parts (λ s. nat_le (sbf (t + 1 - s)) (ticks_in is_on (with_tick run Off) s (t + 1 - s))) (t + 1) s may (omega arith)) in
+      let at : sbf (t + 1 - s) ≤ ticks_in is_on (with_tick run Off) s (t + 1 - s) =
+      leb-true _ _
+      (all_parts (λ s. nat_le (sbf (t + 1 - s)) (ticks_in is_on (with_tick run Off) s (t + 1 - s))) (t + 1) s may (omega arith)) in
       omega (arith, at, off_window s h)
 
   pub off_from : ((s : ℕ) → s ≤ t → sbf (t + 1 - s) ≤ ticks_in is_on run s (t - s)) → may_be_off sbf run t ≡ true
   unfolding may_be_off
-  off_from each = all_from (λ s. nat_le (sbf (t + 1 - s)) (ticks_in is_on (with_tick run Off) s (t + 1 - s))) (t + 1) (λ s h. le-leb _ _ (omega (arith, each s (omega arith), off_window s (omega arith))))
+  off_from each =
+      all_from (λ s. nat_le (sbf (t + 1 - s)) (ticks_in is_on (with_tick run Off) s (t + 1 - s))) (t + 1)
+      (λ s h. le-leb _ _ (omega (arith, each s (omega arith), off_window s (omega arith))))
 
   pub off_broken : (s : ℕ) → s ≤ t → ticks_in is_on run s (t - s) < sbf (t + 1 - s) → may_be_off sbf run t ≡ false
   unfolding may_be_off
   off_broken s h few =
-      all_broken (λ s. nat_le (sbf (t + 1 - s)) (ticks_in is_on (with_tick run Off) s (t + 1 - s))) (t + 1) s (omega arith) (lt-leb (sbf (t + 1 - s)) (ticks_in is_on (with_tick run Off) s (t + 1 - s)) (omega (arith, few, off_window s h)))
+      all_broken (λ s. nat_le (sbf (t + 1 - s)) (ticks_in is_on (with_tick run Off) s (t + 1 - s))) (t + 1) s (omega arith)
+      (lt-leb (sbf (t + 1 - s)) (ticks_in is_on (with_tick run Off) s (t + 1 - s)) (omega (arith, few, off_window s h)))
 
   -- where one tick of each is promised, none may be off
   pub never_off : 1 ≤ sbf 1 → may_be_off sbf run t ≡ false

@@ -37,9 +37,12 @@ module _ (w : World) where
   -- what arrives at t stays
   arrivals_stay : (n o t : ℕ) → o < length w.sheet.tasks → t < n → BeginsWith (simulated_run w n).jobs (arrive_below w t (suc o) (moment_after w t)).run.jobs
   unfolding simulated_run
-  arrivals_stay n o t b h = begins_trans _ _ _ (moments_in_turn w (suc t) n (omega arith)) (begins_trans _ _ _ (moment_extends w t) (tasks_in_turn w t (suc o) (length w.sheet.tasks) (moment_after w t) (omega arith)))
+  arrivals_stay n o t b h =
+      begins_trans _ _ _ (moments_in_turn w (suc t) n (omega arith))
+      (begins_trans _ _ _ (moment_extends w t) (tasks_in_turn w t (suc o) (length w.sheet.tasks) (moment_after w t) (omega arith)))
 
-  later_counted : (n o t s : ℕ) → o < length w.sheet.tasks → t < n → arrivals_of (arrive_below w t (suc o) (moment_after w t)).run o s (t + 1) ≤ arrivals_of (simulated_run w n) o s (t + 1)
+  later_counted : (n o t s : ℕ) → o < length w.sheet.tasks → t < n →
+      arrivals_of (arrive_below w t (suc o) (moment_after w t)).run o s (t + 1) ≤ arrivals_of (simulated_run w n) o s (t + 1)
   unfolding arrivals_of
   later_counted n o t s b h = arrivals_front (arrive_below w t (suc o) (moment_after w t)).run (simulated_run w n).jobs o s (t + 1) (arrivals_stay n o t b h)
 

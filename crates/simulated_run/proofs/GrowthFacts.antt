@@ -107,4 +107,10 @@ module _ (w : World) where
 
   pub ticks_count : (n : ℕ) → length (moment_after w n).run.ticks ≡ n
   ticks_count zero = refl
-  ticks_count (suc n) = omega (arith, tick_counts n (arrive_below w n (length w.sheet.tasks) (moment_after w n)), ap length (tasks_keep_ticks n (length w.sheet.tasks) (moment_after w n)), ticks_count n)
+  ticks_count (suc n) =
+      omega (
+        arith,
+        tick_counts n (arrive_below w n (length w.sheet.tasks) (moment_after w n)),
+        ap length (tasks_keep_ticks n (length w.sheet.tasks) (moment_after w n)),
+        ticks_count n,
+      )

@@ -54,7 +54,9 @@ bounds_sum (suc n) bound rest = omega (arith, sum_more bound (replicate n bound 
 
 pub bounds_within : (n bound : ℕ) (rest : List ℕ) → 1 ≤ bound → are_lengths_within bound rest ≡ true → are_lengths_within bound (replicate n bound ++ rest) ≡ true
 bounds_within zero bound rest low h = h
-bounds_within (suc n) bound rest low h = and_from _ _ (and_from (leb 1 bound) (leb bound bound) (le-leb 1 bound low) (le-leb bound bound (omega arith))) (bounds_within n bound rest low h)
+bounds_within (suc n) bound rest low h =
+    and_from _ _ (and_from (leb 1 bound) (leb bound bound) (le-leb 1 bound low) (le-leb bound bound (omega arith)))
+    (bounds_within n bound rest low h)
 
 pub rest_sum : (n : ℕ) → sum (rest_segment n) ≡ n
 rest_sum n = elim (cases_eq n 0) [
@@ -100,12 +102,13 @@ cost_fits (Seed seed) (Floating bound) cost state h f = drawn_fits cost state h
 
 -- a job with these numbers
 abbrev job_of : ℕ → ℕ → ℕ → List ℕ → Job
-job_of o t cost segments = record { task = o; arrival = t; cost = cost; segs = segments }
+job_of o t cost segments = record { task = o; arrival = t; release = t; cost = cost; segs = segments }
 
 floats : (o t bound cost : ℕ) → 1 ≤ bound → segments_fit (Floating bound) (job_of o t cost (floating_segments bound cost)) ≡ true
 floats o t bound cost low = and_from _ _ (floating_within bound cost low) (eq-eqb _ _ (floating_sum bound cost low))
 
-segments_by_fit : (mode : Mode) (cut : Cut) (cost o t state : ℕ) → CutFits cost cut → segments_fit cut (job_of o t (cost_by mode cut cost state) (segments_by mode cut (cost_by mode cut cost state) state)) ≡ true
+segments_by_fit : (mode : Mode) (cut : Cut) (cost o t state : ℕ) → CutFits cost cut →
+    segments_fit cut (job_of o t (cost_by mode cut cost state) (segments_by mode cut (cost_by mode cut cost state) state)) ≡ true
 segments_by_fit Dense Full cost o t state f = refl
 segments_by_fit Dense Never cost o t state f = refl
 segments_by_fit Dense (Fixed segments) cost o t state f = and_from _ _ (each_itself segments) (eq-eqb _ _ f.1)
@@ -134,10 +137,17 @@ module _ (mode : Mode) (task : Task) (ok : IsTask task) (o t state : ℕ) where
   unfolding new_job
   new_arrival = refl
 
+  pub new_release : (new_job mode task o t state).release ≡ t
+  unfolding new_job
+  new_release = refl
+
   -- a new job fits by the task's own cut
   pub new_fits : fits task (new_job mode task o t state) ≡ true
   unfolding new_job
-  new_fits = and_from _ _ (and_from _ _ (le-leb _ _ (cost_fits mode task.cut task.cost state ok.cost_low ok.cut).low) (le-leb _ _ (cost_fits mode task.cut task.cost state ok.cost_low ok.cut).high)) (segments_by_fit mode task.cut task.cost o t state ok.cut)
+  new_fits =
+      and_from _ _
+      (and_from _ _ (le-leb _ _ (cost_fits mode task.cut task.cost state ok.cost_low ok.cut).low) (le-leb _ _ (cost_fits mode task.cut task.cost state ok.cost_low ok.cut).high))
+      (segments_by_fit mode task.cut task.cost o t state ok.cut)
 
   -- and so by every kind of the table that serves the task
   pub new_fits_by : (m : CutMeaning) → IsTabledCut m task → m.fits task (new_job mode task o t state) ≡ true

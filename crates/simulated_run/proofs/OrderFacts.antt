@@ -35,11 +35,16 @@ place_of w run k = record {
 
 -- the comparison by each of them in turn
 abbrev pub place_cmp : Place → Place → Ordering
-place_cmp a b = ordering_then (int_cmp a.high b.high) (ordering_then (int_cmp a.low b.low) (ordering_then (nat_cmp a.task b.task) (ordering_then (nat_cmp a.arrival b.arrival) (nat_cmp a.number b.number))))
+place_cmp a b =
+    ordering_then (int_cmp a.high b.high)
+    (ordering_then (int_cmp a.low b.low) (ordering_then (nat_cmp a.task b.task) (ordering_then (nat_cmp a.arrival b.arrival) (nat_cmp a.number b.number))))
 
 pub place_total : IsTotalOrder place_cmp
 place_total =
-    then_total (on_total (λ (r : Place). r.high) int_cmp_total) (then_total (on_total (λ (r : Place). r.low) int_cmp_total) (then_total (on_total (λ (r : Place). r.task) nat_cmp_total) (then_total (on_total (λ (r : Place). r.arrival) nat_cmp_total) (on_total (λ (r : Place). r.number) nat_cmp_total))))
+    then_total (on_total (λ (r : Place). r.high) int_cmp_total)
+    (then_total (on_total (λ (r : Place). r.low) int_cmp_total)
+    (then_total (on_total (λ (r : Place). r.task) nat_cmp_total)
+    (then_total (on_total (λ (r : Place). r.arrival) nat_cmp_total) (on_total (λ (r : Place). r.number) nat_cmp_total))))
 
 number_is : (k n : ℕ) → nat_lt k n ≡ is_lt (nat_cmp k n)
 number_is k n = grind (arith, nat_tests)
@@ -58,9 +63,11 @@ by_key_is p q u v b r h = grind (arith, ints)
 abbrev key_of : Place → Key
 key_of a = record { high = a.high; low = a.low }
 
-place_is : (a b : Place) → (not (key_le (key_of b) (key_of a)) || (key_le (key_of a) (key_of b) && by_number (a.task, a.arrival, a.number) (b.task, b.arrival, b.number))) ≡ is_lt (place_cmp a b)
+place_is : (a b : Place) →
+    (not (key_le (key_of b) (key_of a)) || (key_le (key_of a) (key_of b) && by_number (a.task, a.arrival, a.number) (b.task, b.arrival, b.number))) ≡ is_lt (place_cmp a b)
 place_is a b =
-    by_key_is a.high b.high a.low b.low (by_number (a.task, a.arrival, a.number) (b.task, b.arrival, b.number)) (ordering_then (nat_cmp a.task b.task) (ordering_then (nat_cmp a.arrival b.arrival) (nat_cmp a.number b.number)))
+    by_key_is a.high b.high a.low b.low (by_number (a.task, a.arrival, a.number) (b.task, b.arrival, b.number))
+    (ordering_then (nat_cmp a.task b.task) (ordering_then (nat_cmp a.arrival b.arrival) (nat_cmp a.number b.number)))
     (by_number_is a.task a.arrival a.number b.task b.arrival b.number)
 
 lt_less : (o : Ordering) → is_lt o ≡ true → o ≡ Less
@@ -104,6 +111,11 @@ module _ (w : World) (run : Run) where
   later_key k n h = not_left _ _ h
 
   -- of one task's jobs whose keys do not say otherwise, who arrived earlier comes before
-  pub earlier_first : (k n : ℕ) → key_le (w.policy.key w.sheet (job_at run k)) (w.policy.key w.sheet (job_at run n)) ≡ true → (job_at run k).task ≡ (job_at run n).task → (job_at run k).arrival < (job_at run n).arrival → comes_before w run k n ≡ true
+  pub earlier_first : (k n : ℕ) →
+      key_le (w.policy.key w.sheet (job_at run k)) (w.policy.key w.sheet (job_at run n)) ≡ true →
+      (job_at run k).task ≡ (job_at run n).task → (job_at run k).arrival < (job_at run n).arrival →
+      comes_before w run k n ≡ true
   unfolding comes_before
-  earlier_first k n le same earlier = or_right _ _ (and_from _ _ le (number_first (job_at run k).task (job_at run n).task (job_at run k).arrival (job_at run n).arrival k n same earlier))
+  earlier_first k n le same earlier =
+      or_right _ _
+      (and_from _ _ le (number_first (job_at run k).task (job_at run n).task (job_at run k).arrival (job_at run n).arrival k n same earlier))

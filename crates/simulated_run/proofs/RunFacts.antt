@@ -13,10 +13,16 @@ use Rattle.schedule_laws.specs.Compliance.{arrives_in, arrivals_of}
 use Rattle.simulated_run.specs.SimulatedRun.{with_job, with_tick}
 use Rattle.simulated_run.proofs.GrowthFacts.{length_more, BeginsWith}
 
+-- what counts, counts once
+pub at_most_one : (b : Bool) → cond {A = ℕ} b 1 0 ≤ 1
+at_most_one true = omega arith
+at_most_one false = omega arith
+
 count_push : {X : Type 0} (p : X → Bool) (xs : List X) (x : X) → count_by p (xs ++ x ∷ []) ≡ count_by p xs + cond (p x) 1 0
 count_push {X} p xs x =
     let n : length (xs ++ x ∷ []) ≡ suc (length xs) = length_more xs x in
-    let step : count_by p (take (suc (length xs)) (xs ++ x ∷ [])) ≡ count_by p (take (length xs) (xs ++ x ∷ [])) + cond (p (get_or (xs ++ x ∷ []) (length xs) x)) 1 0 = count_more p (xs ++ x ∷ []) x (length xs) (omega arith) in
+    let step : count_by p (take (suc (length xs)) (xs ++ x ∷ [])) ≡ count_by p (take (length xs) (xs ++ x ∷ [])) + cond (p (get_or (xs ++ x ∷ []) (length xs) x)) 1 0 =
+    count_more p (xs ++ x ∷ []) x (length xs) (omega arith) in
     let all : take (suc (length xs)) (xs ++ x ∷ []) ≡ xs ++ x ∷ [] = take_all (suc (length xs)) (xs ++ x ∷ []) (omega arith) in
     let front : take (length xs) (xs ++ x ∷ []) ≡ xs = take-append-le (length xs) xs (x ∷ []) (omega arith) ∙ take_all (length xs) xs (omega arith) in
     let last : get_or (xs ++ x ∷ []) (length xs) x ≡ x = get_or_at xs x [] x (length xs) refl in
@@ -26,17 +32,33 @@ cond_le : (b c : Bool) → (b ≡ true → c ≡ true) → cond {A = ℕ} b 1 0 
 cond_le true c h = rw (h refl) (omega arith)
 cond_le false c h = omega arith
 
-front_le : {X : Type 0} (p q : X → Bool) (xs : List X) (d : X) (n : ℕ) → n ≤ length xs → ((k : ℕ) → k < n → p (get_or xs k d) ≡ true → q (get_or xs k d) ≡ true) → count_by p (take n xs) ≤ count_by q (take n xs)
+front_le : {X : Type 0} (p q : X → Bool) (xs : List X) (d : X) (n : ℕ) → n ≤ length xs →
+    ((k : ℕ) → k < n → p (get_or xs k d) ≡ true → q (get_or xs k d) ≡ true) →
+    count_by p (take n xs) ≤ count_by q (take n xs)
 front_le p q xs d zero h e = omega arith
 front_le p q xs d (suc n) h e =
-    omega (arith, front_le p q xs d n (omega arith) (λ k b. e k (omega arith)), count_more p xs d n (omega arith), count_more q xs d n (omega arith), cond_le (p (get_or xs n d)) (q (get_or xs n d)) (e n (omega arith)))
+    omega (
+      arith,
+      front_le p q xs d n (omega arith) (λ k b. e k (omega arith)),
+      count_more p xs d n (omega arith),
+      count_more q xs d n (omega arith),
+      cond_le (p (get_or xs n d)) (q (get_or xs n d)) (e n (omega arith)),
+    )
 
-count_le : {X : Type 0} (p q : X → Bool) (xs : List X) (d : X) → ((k : ℕ) → k < length xs → p (get_or xs k d) ≡ true → q (get_or xs k d) ≡ true) → count_by p xs ≤ count_by q xs
+count_le : {X : Type 0} (p q : X → Bool) (xs : List X) (d : X) →
+    ((k : ℕ) → k < length xs → p (get_or xs k d) ≡ true → q (get_or xs k d) ≡ true) → count_by p xs ≤ count_by q xs
 count_le {X} p q xs d e =
-    omega (arith, front_le p q xs d (length xs) (omega arith) e, ap (λ (l : List X). count_by p l) (take_all (length xs) xs (omega arith)), ap (λ (l : List X). count_by q l) (take_all (length xs) xs (omega arith)))
+    omega (
+      arith,
+      front_le p q xs d (length xs) (omega arith) e,
+      ap (λ (l : List X). count_by p l) (take_all (length xs) xs (omega arith)),
+      ap (λ (l : List X). count_by q l) (take_all (length xs) xs (omega arith)),
+    )
 
 -- a window that takes in all arrivals of the other has no fewer
-pub arrivals_le : (run : Run) (o s u a b : ℕ) → ((k : ℕ) → k < length run.jobs → arrives_in o s u (job_at run k) ≡ true → arrives_in o a b (job_at run k) ≡ true) → arrivals_of run o s u ≤ arrivals_of run o a b
+pub arrivals_le : (run : Run) (o s u a b : ℕ) →
+    ((k : ℕ) → k < length run.jobs → arrives_in o s u (job_at run k) ≡ true → arrives_in o a b (job_at run k) ≡ true) →
+    arrivals_of run o s u ≤ arrivals_of run o a b
 unfolding arrivals_of
 arrivals_le run o s u a b e = count_le (arrives_in o s u) (arrives_in o a b) run.jobs no_job e
 
@@ -110,11 +132,19 @@ module _ (run : Run) (x : Tick) where
       ap (λ (l : List Tick). count_by test (take d l)) e ∙ ap (λ (l : List Tick). count_by test l) (take-append-le d (drop a run.ticks) (x ∷ []) (simp length-drop (omega arith)))
 
   -- one that ends with it
-  pub window_new : (test : Tick → Bool) (a d : ℕ) → a + d ≡ length run.ticks → ticks_in test (with_tick run x) a (suc d) ≡ ticks_in test run a d + cond (test x) 1 0
+  pub window_new : (test : Tick → Bool) (a d : ℕ) → a + d ≡ length run.ticks →
+      ticks_in test (with_tick run x) a (suc d) ≡ ticks_in test run a d + cond (test x) 1 0
   unfolding with_tick ticks_in
   window_new test a d h =
       let e : drop a (run.ticks ++ x ∷ []) ≡ drop a run.ticks ++ x ∷ [] = drop-append-le a run.ticks (x ∷ []) (omega arith) in
       let l : length (drop a run.ticks) ≡ d = simp length-drop (omega arith) in
-      let all : take (suc d) (drop a run.ticks ++ x ∷ []) ≡ drop a run.ticks ++ x ∷ [] = take_all (suc d) (drop a run.ticks ++ x ∷ []) (omega (arith, length_more (drop a run.ticks) x)) in
+      let all : take (suc d) (drop a run.ticks ++ x ∷ []) ≡ drop a run.ticks ++ x ∷ [] =
+      take_all (suc d) (drop a run.ticks ++ x ∷ []) (omega (arith, length_more (drop a run.ticks) x)) in
       let whole : take d (drop a run.ticks) ≡ drop a run.ticks = take_all d (drop a run.ticks) (omega arith) in
-      omega (arith, ap (λ (l : List Tick). count_by test (take (suc d) l)) e, ap (λ (l : List Tick). count_by test l) all, count_push test (drop a run.ticks) x, ap (λ (l : List Tick). count_by test l) whole)
+      omega (
+        arith,
+        ap (λ (l : List Tick). count_by test (take (suc d) l)) e,
+        ap (λ (l : List Tick). count_by test l) all,
+        count_push test (drop a run.ticks) x,
+        ap (λ (l : List Tick). count_by test l) whole,
+      )

@@ -7,6 +7,7 @@ use Rattle.preemption.specs.CutLaws.{IsLawfulCut, IsTabledCut}
 use Rattle.run_model.specs.declared.run.Run.{Run}
 use Rattle.run_model.specs.Runs.{job_at, service_of, IsDone}
 use Rattle.schedule_laws.specs.Compliance.{arrivals_of, can_cut, IsCompliant}
+use Rattle.simulated_run.specs.Laws.{IsPrompt}
 use Rattle.simulated_run.specs.SimulatedRun.{World}
 
 -- the laws by which a simulated run complies
@@ -22,9 +23,11 @@ pub record IsLawful (w : World) : Type 0 where
 pub record IsSound (w : World) (t : ℕ) (run : Run) : Type 0 where
   pub now : length run.ticks ≡ t
   pub early : (k : ℕ) → k < length run.jobs → (job_at run k).arrival ≤ t
+  pub prompt : IsPrompt run
   pub complies : IsCompliant w.policy w.cuts w.sbf w.sheet run
   -- where a job has run, the jobs of its task that arrived earlier are done
-  pub ahead : (k n : ℕ) → k < length run.jobs → n < length run.jobs → 0 < service_of run k t → (job_at run n).task ≡ (job_at run k).task → (job_at run n).arrival < (job_at run k).arrival → IsDone run n t
+  pub ahead : (k n : ℕ) → k < length run.jobs → n < length run.jobs → 0 < service_of run k t →
+      (job_at run n).task ≡ (job_at run k).task → (job_at run n).arrival < (job_at run k).arrival → IsDone run n t
   -- at most one job is inside a segment
   pub single : (k n : ℕ) → k < length run.jobs → n < length run.jobs → can_cut w.cuts w.sheet run k t ≡ false → can_cut w.cuts w.sheet run n t ≡ false → k ≡ n
 

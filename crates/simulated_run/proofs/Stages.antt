@@ -18,7 +18,7 @@ use Rattle.simulated_run.specs.declared.mode.Mode.{Mode}
 use Rattle.simulated_run.specs.declared.mode.Mode.TheVariants.{Dense, Seed}
 use Rattle.simulated_run.specs.Jobs.{new_job}
 use Rattle.simulated_run.specs.SimulatedRun.{World, Moment, with_job, with_tick, admits, allowance_of, arriving, after_arriving, is_off, may_be_off, choice, room, add_job, add_jobs, arrive_of, arrive_below, add_tick, moment_after, simulated_run}
-use Rattle.simulated_run.proofs.RunFacts.{job_kept, job_new, jobs_more, arrivals_more, arrivals_le}
+use Rattle.simulated_run.proofs.RunFacts.{at_most_one, job_kept, job_new, jobs_more, arrivals_more, arrivals_le}
 use Rattle.simulated_run.proofs.JobFacts.{new_fits_by}
 use Rattle.simulated_run.proofs.Soundness.{IsLawful, IsSound, HasRoom}
 use Rattle.simulated_run.proofs.AddedJobs.{sound_job}
@@ -54,13 +54,10 @@ pub record IsAmid (w : World) (o t n : ℕ) (run : Run) : Type 0 where
   pub left : HasRoom w o t n run
   pub fresh : IsFresh (suc o) t run
 
-past_tick : (t : ℕ) (run : Run) (y : Tick) → ((k : ℕ) → k < length run.jobs → (job_at run k).arrival ≤ t) → (k : ℕ) → k < length (with_tick run y).jobs → (job_at (with_tick run y) k).arrival < suc t
+past_tick : (t : ℕ) (run : Run) (y : Tick) → ((k : ℕ) → k < length run.jobs → (job_at run k).arrival ≤ t) → (k : ℕ) →
+    k < length (with_tick run y).jobs → (job_at (with_tick run y) k).arrival < suc t
 unfolding with_tick
 past_tick t run y early k b = omega (arith, early k b)
-
-at_most_one : (b : Bool) → cond {A = ℕ} b 1 0 ≤ 1
-at_most_one true = omega arith
-at_most_one false = omega arith
 
 module _ (w : World) (laws : IsLawful w) where
   by_off : {t : ℕ} {run : Run} {y : Tick} (off : Bool) → (off ≡ true → MayFollow w t run Off) → MayFollow w t run y → MayFollow w t run (cond off Off y)
@@ -68,14 +65,19 @@ module _ (w : World) (laws : IsLawful w) where
   by_off false a b = b
 
   -- as many jobs as are allowed have room
-  pub allowed_has_room : (o t : ℕ) (run : Run) → o < length w.sheet.tasks → IsSound w t run → IsFresh o t run → HasRoom w o t (allowance_of (task_at w.sheet o).curve o run t) run
+  pub allowed_has_room : (o t : ℕ) (run : Run) → o < length w.sheet.tasks → IsSound w t run → IsFresh o t run →
+      HasRoom w o t (allowance_of (task_at w.sheet o).curve o run t) run
   unfolding allowance_of
   allowed_has_room o t run b sound fresh =
       let curve = (task_at w.sheet o).curve in
-      let none : admits curve o run t 0 ≡ true = all_from (λ s. nat_le (arrivals_of run o s t + 0) (alpha_of curve (t + 1 - s))) (t + 1) (λ s h. le-leb _ _ (omega (arith, sound.complies.curves o s t b (omega arith), alpha_mono curve (laws.sheet.each o b).curve (t - s) (t + 1 - s) (omega arith)))) in
+      let none : admits curve o run t 0 ≡ true =
+      all_from (λ s. nat_le (arrivals_of run o s t + 0) (alpha_of curve (t + 1 - s))) (t + 1)
+      (λ s h. le-leb _ _ (omega (arith, sound.complies.curves o s t b (omega arith), alpha_mono curve (laws.sheet.each o b).curve (t - s) (t + 1 - s) (omega arith)))) in
       let all : admits curve o run t (allowance_of curve o run t) ≡ true = greatest_passes (admits curve o run t) (alpha_of curve 1) none in
       λ s h. (
-      let at : arrivals_of run o s t + allowance_of curve o run t ≤ alpha_of curve (t + 1 - s) = leb-true _ _ (all_parts (λ s. nat_le (arrivals_of run o s t + allowance_of curve o run t) (alpha_of curve (t + 1 - s))) (t + 1) s all (omega arith)) in
+      let at : arrivals_of run o s t + allowance_of curve o run t ≤ alpha_of curve (t + 1 - s) =
+      leb-true _ _
+      (all_parts (λ s. nat_le (arrivals_of run o s t + allowance_of curve o run t) (alpha_of curve (t + 1 - s))) (t + 1) s all (omega arith)) in
       let same : arrivals_of run o s (suc t) ≤ arrivals_of run o s t = arrivals_le run o s (suc t) s t (λ k c e. (let f = fresh k c in grind (arith, nat_tests))) in
       omega (arith, at, same)
       )
@@ -95,7 +97,7 @@ module _ (w : World) (laws : IsLawful w) where
       let j : Job = new_job w.mode (task_at w.sheet o) o t m.state in
       let fits : w.cuts.fits (task_at w.sheet o) j ≡ true = new_fits_by w.mode (task_at w.sheet o) (laws.sheet.each o b) o t m.state w.cuts (laws.tabled o b) in
       record {
-        sound = sound_job w laws t m.run amid.sound j b refl fits (λ s h. omega (arith, amid.left s h));
+        sound = sound_job w laws t m.run amid.sound j b refl refl fits (λ s h. omega (arith, amid.left s h));
         left = λ s h. omega (arith, amid.left s h, arrivals_more m.run j o s (suc t), at_most_one (arrives_in o s (suc t) j));
         fresh = fresh_job o t m.run j refl amid.fresh;
       }
@@ -131,7 +133,9 @@ module _ (w : World) (laws : IsLawful w) where
   begun_tick t m sound =
       let may : Bool = may_be_off w.sbf m.run t in
       let off : Bool = is_off w.mode may m.state in
-      let follows : MayFollow w t m.run (cond off Off (choice w m.run t)) = by_off off (λ e. off_follows w laws t m.run sound (off_allowed w.mode may m.state e)) (choice_follows w laws t m.run sound) in
+      let follows : MayFollow w t m.run (cond off Off (choice w m.run t)) =
+      by_off off (λ e. off_follows w laws t m.run sound (off_allowed w.mode may m.state e))
+      (choice_follows w laws t m.run sound) in
       record {
         sound = sound_tick w laws t m.run sound (cond off Off (choice w m.run t)) follows;
         past = past_tick t m.run (cond off Off (choice w m.run t)) sound.early;
@@ -145,8 +149,9 @@ module _ (w : World) (laws : IsLawful w) where
   nothing = record {
     now = refl;
     early = λ k b. absurd (omega arith);
+    prompt = λ k b. absurd (omega arith);
     complies = record {
-      valid = record { jobs = λ k b. absurd (omega arith); ticks = λ u k b. absurd (omega arith) };
+      valid = record { jobs = λ k b. absurd (omega arith); releases = λ k b. absurd (omega arith); ticks = λ u k b. absurd (omega arith) };
       curves = λ o s u b h. omega arith;
       supplied = λ a u h b. (let e : u - a ≡ 0 = omega arith in omega (arith, ap w.sbf e, laws.starts));
       conserving = λ u k b. absurd (omega arith);

@@ -1,5 +1,5 @@
 -- Simulated runs whose jobs and ticks are known.
-use Rattle.std.proofs.Common.{◌≡◌, ℕ, List, [], ◌∷◌, refl}
+use Rattle.std.proofs.Common.{◌≡◌, ℕ, pos, List, [], ◌∷◌, refl}
 use Rattle.curve.specs.Curves.{value_of, alpha_of}
 use Rattle.task_sheet.specs.Sheets.{no_task}
 use Rattle.task_sheet.specs.declared.tasks.PolicyKind.TheVariants.{Fp}
@@ -34,6 +34,8 @@ periodic cost period priority cut = record {
   cost = cost;
   deadline = period;
   priority = priority;
+  jitter = 0;
+  point = pos 0;
   curve = record { horizon = period; steps = record { time = 1; value = 1 } ∷ [] };
   cut = cut;
 }
@@ -47,7 +49,7 @@ abbrev half : SupplySpec
 half = Promised 4 (3 ∷ 4 ∷ [])
 
 abbrev job : ℕ → ℕ → ℕ → List ℕ → Job
-job o t cost segments = record { task = o; arrival = t; cost = cost; segs = segments }
+job o t cost segments = record { task = o; arrival = t; release = t; cost = cost; segs = segments }
 
 -- a task, and a second one that is never preempted
 abbrev never_preempted : List Task

@@ -49,11 +49,12 @@ words_by (Seed seed) Never = 1
 words_by (Seed seed) (Fixed segments) = length segments
 words_by (Seed seed) (Floating bound) = 1
 
--- a new job of task o that arrives at t
+-- a new job of task o that arrives at t and is released at once
 unfoldable pub new_job : Mode → Task → ℕ → ℕ → ℕ → Job
 new_job mode task o t state = record {
   task = o;
   arrival = t;
+  release = t;
   cost = cost_by mode task.cut task.cost state;
   segs = segments_by mode task.cut (cost_by mode task.cut task.cost state) state;
 }

@@ -15,7 +15,7 @@ use Rattle.preemption.specs.Segments.{or_right}
 use Rattle.simulated_run.specs.declared.mode.Mode.{Mode}
 use Rattle.simulated_run.specs.declared.mode.Mode.TheVariants.{Dense, Seed}
 use Rattle.simulated_run.specs.Jobs.{rest_segment, floating_segments, new_job, cost_by, segments_by}
-use Rattle.simulator.specs.Kept.{FloatsBy}
+use Rattle.simulator.specs.SimulationState.{FloatsBy}
 
 -- within the first bound only the begin is a multiple of it
 small_multiple : (s bound : ℕ) → s < bound → (s % bound == 0) ≡ (s == 0)
@@ -53,14 +53,16 @@ floating_cut bound cost s l = elim (cases_lt s cost) [
 ]
 
 -- so they are for every kind of the table that serves the task
-pub floating_cuttable : (m : CutMeaning) (task : Task) (j : Job) (bound s : ℕ) → IsTask task → IsTabledCut m task → task.cut ≡ Floating bound → FloatsBy task.cut j → ((s % bound == 0) || leb j.cost s) ≡ m.cuttable task j s
+pub floating_cuttable : (m : CutMeaning) (task : Task) (j : Job) (bound s : ℕ) → IsTask task → IsTabledCut m task →
+    task.cut ≡ Floating bound → FloatsBy task.cut j → ((s % bound == 0) || leb j.cost s) ≡ m.cuttable task j s
 floating_cuttable m task j bound s ok tabled is floats =
     let low = (subst (CutFits task.cost) is ok.cut).0 in
     let segs : j.segs ≡ floating_segments bound j.cost = subst (λ (c : Cut). FloatsBy c j) is floats in
     floating_cut bound j.cost s low
     ∙ (ap (λ (l : List ℕ). is_prefix_sum l s || leb j.cost s) (sym segs) ∙ (ap (λ (c : Cut). cuttable_by c j s) (sym is) ∙ sym (tabled.same_cuts j s)))
 
-floats_by : (mode : Mode) (cut : Cut) (o t cost state : ℕ) → FloatsBy cut (record { task = o; arrival = t; cost = cost_by mode cut cost state; segs = segments_by mode cut (cost_by mode cut cost state) state })
+floats_by : (mode : Mode) (cut : Cut) (o t cost state : ℕ) →
+    FloatsBy cut (record { task = o; arrival = t; release = t; cost = cost_by mode cut cost state; segs = segments_by mode cut (cost_by mode cut cost state) state })
 floats_by mode Full o t cost state = tt
 floats_by mode Never o t cost state = tt
 floats_by mode (Fixed segments) o t cost state = tt

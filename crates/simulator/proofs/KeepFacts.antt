@@ -1,4 +1,4 @@
--- What the machine keeps, over one more job and one more tick.
+-- What the simulation keeps, over one more job and one more tick.
 use Rattle.std.proofs.Common.{◌≡◌, ◌≢◌, ℕ, suc, ◌+◌, ◌-◌, ◌<◌, ◌≤◌, Bool, true, false, cond, List, [], ◌∷◌, ◌++◌, length, Option, Some, None, refl, sym, ◌∙◌, ap, subst, inl, inr, arith}
 use Rattle.std.specs.BTreeMap.{BTreeMap, Updates}
 use Rattle.std.proofs.Math.ListN.{set}
@@ -20,15 +20,16 @@ use Rattle.schedule_laws.specs.Compliance.{can_cut}
 use Rattle.simulated_run.specs.SimulatedRun.{World, with_job, with_tick, inside_segment}
 use Rattle.simulated_run.proofs.GrowthFacts.{length_more}
 use Rattle.simulated_run.proofs.RunFacts.{job_kept, job_new, jobs_more, tick_kept, tick_new, ticks_more, service_new, service_unlisted}
-use Rattle.simulator.specs.declared.machine.Rank.{Rank}
+use Rattle.simulator.specs.declared.simulation.Rank.{Rank}
 use Rattle.simulator.specs.Ranks.{rank_at, rank_cmp}
-use Rattle.simulator.specs.Kept.{IsQueue, left_at, IsKnown, IsKeptAt, OnlyInside, CanRun}
+use Rattle.simulator.specs.SimulationState.{IsQueue, left_at, IsKnown, IsKeptAt, OnlyInside, CanRun}
 use Rattle.simulator.proofs.LimitFacts.{within_more}
 use Rattle.simulator.proofs.QueueFacts.{queue_push, Tells}
 
 -- the job inside a segment
 
-only_more : (cut new : ℕ → Bool) (n m : ℕ) (x : Option ℕ) → m ≡ suc n → ((k : ℕ) → k < n → new k ≡ cut k) → new n ≡ true → OnlyInside cut n x → OnlyInside new m x
+only_more : (cut new : ℕ → Bool) (n m : ℕ) (x : Option ℕ) → m ≡ suc n → ((k : ℕ) → k < n → new k ≡ cut k) →
+    new n ≡ true → OnlyInside cut n x → OnlyInside new m x
 only_more cut new n m None e same last h = λ k b. elim (cases_lt k n) [
   | inl c ↦ same k c ∙ h k c
   | inr c ↦ let at : n ≡ k = omega arith in subst (λ w. new w ≡ true) at last
@@ -51,9 +52,12 @@ others_cut cut n None j k h can b ne = h k b
 others_cut cut n (Some i) j k h can b ne = h.2 k b (λ e. ne (e ∙ sym can))
 
 -- where job j ran, at most j is inside a segment
-only_ran : (cut new : ℕ → Bool) (n j : ℕ) (x : Option ℕ) → j < n → CanRun x j → ((k : ℕ) → k < n → k ≢ j → new k ≡ cut k) → OnlyInside cut n x → OnlyInside new n (cond (new j) None (Some j))
+only_ran : (cut new : ℕ → Bool) (n j : ℕ) (x : Option ℕ) → j < n → CanRun x j →
+    ((k : ℕ) → k < n → k ≢ j → new k ≡ cut k) → OnlyInside cut n x → OnlyInside new n (cond (new j) None (Some j))
 only_ran cut new n j x b can same h = elim (cases_Bool (new j)) [
-  | inl e ↦ subst (λ (w : Bool). OnlyInside new n (cond w None (Some j))) (sym e) (λ k c. elim (cases_eq k j) [ inl at ↦ subst (λ w. new w ≡ true) (sym at) e | inr ne ↦ same k c ne ∙ others_cut cut n x j k h can c ne ])
+  | inl e ↦
+      subst (λ (w : Bool). OnlyInside new n (cond w None (Some j))) (sym e)
+      (λ k c. elim (cases_eq k j) [ inl at ↦ subst (λ w. new w ≡ true) (sym at) e | inr ne ↦ same k c ne ∙ others_cut cut n x j k h can c ne ])
   | inr e ↦ subst (λ (w : Bool). OnlyInside new n (cond w None (Some j))) (sym e) (b, e, (λ k c ne. same k c ne ∙ others_cut cut n x j k h can c ne))
 ]
 
@@ -62,17 +66,20 @@ only_first : (cut : ℕ → Bool) (n : ℕ) (x : Option ℕ) → OnlyInside cut 
 only_first cut n None h = first_none cut n h
 only_first cut n (Some j) h = first_some cut j n h.0 h.1 (λ k b. h.2 k (let c = h.0 in omega arith) (λ e. omega arith))
 
-module _ (p : PolicyMeaning) (m : CutMeaning) (sheet : SheetParts) (t : ℕ) (run : Run) (left : List ℕ) (queue : BTreeMap Rank ℕ) (x : Option ℕ) (kept : IsKeptAt p m sheet t run left queue x) where
+module _ (p : PolicyMeaning) (m : CutMeaning) (sheet : SheetParts) (t : ℕ) (run : Run) (left : List ℕ) (queue : BTreeMap Rank ℕ)
+    (x : Option ℕ) (kept : IsKeptAt p m sheet t run left queue x) where
   pub kept_tells : Tells run left t
   kept_tells = record {
-    waits = λ k b pos. (let a = kept.amounts k b in let r = (kept.known k b).arrived in grind (arith, nat_tests));
+    waits = λ k b pos. (let a = kept.amounts k b in let r = (kept.known k b).arrived in let p = (kept.known k b).prompt in grind (arith, nat_tests));
     over = λ k b pos. (let a = kept.amounts k b in grind (arith, nat_tests));
   }
 
   unserved : (k : ℕ) → length run.jobs ≤ k → service_of run k t ≡ 0
   unserved k h = service_unlisted run (length run.jobs) k t (omega (arith, kept.now)) (λ u i b e. kept.listed u i b e) h
 
-  pub kept_job : (after : BTreeMap Rank ℕ) (j : Job) (n : ℕ) → n ≡ length run.jobs → IsKnown m sheet t j → 1 ≤ j.cost → m.cuttable (task_at sheet j.task) j 0 ≡ true → length run.jobs < 20000 → segments_of run.jobs + length j.segs ≤ 1000000
+  pub kept_job : (after : BTreeMap Rank ℕ) (j : Job) (n : ℕ) → n ≡ length run.jobs → IsKnown m sheet t j → 1 ≤ j.cost →
+      m.cuttable (task_at sheet j.task) j 0 ≡ true → length run.jobs < 20000 →
+      segments_of run.jobs + length j.segs ≤ 1000000
       → Updates rank_cmp queue after (rank_at p sheet j n) (Some n) → IsKeptAt p m sheet t (with_job run j) (left ++ j.cost ∷ []) after x
   unfolding with_job service_of
   kept_job after j n len known pos cut few short up = record {
@@ -89,18 +96,27 @@ module _ (p : PolicyMeaning) (m : CutMeaning) (sheet : SheetParts) (t : ℕ) (ru
       | inl c ↦ omega (arith, kept.amounts k c, get_or_append_left left (j.cost ∷ []) 0 k (omega (arith, kept.lefts)), ap (λ (v : Job). v.cost) (job_kept run j k c))
       | inr c ↦
           let at : length run.jobs ≡ k = omega (arith, jobs_more run j) in
-          omega (arith, ap (λ (v : Job). v.cost) (job_new run j (length run.jobs) refl), ap (λ i. (job_at (with_job run j) i).cost) at, ap (λ i. left_at (left ++ j.cost ∷ []) i) at, get_or_at left j.cost [] 0 (length run.jobs) kept.lefts, unserved k (omega arith))
+          omega (
+            arith,
+            ap (λ (v : Job). v.cost) (job_new run j (length run.jobs) refl),
+            ap (λ i. (job_at (with_job run j) i).cost) at,
+            ap (λ i. left_at (left ++ j.cost ∷ []) i) at,
+            get_or_at left j.cost [] 0 (length run.jobs) kept.lefts,
+            unserved k (omega arith),
+          )
     ];
     waiting = queue_push p sheet run.jobs left queue after j j.cost n (sym len) (omega (arith, kept.lefts)) pos kept.waiting up;
     segment = only_more (λ k. can_cut m sheet run k t) (λ k. can_cut m sheet (with_job run j) k t) (length run.jobs) (length (with_job run j).jobs) x (jobs_more run j)
         (λ k b. ap (λ (v : Job). m.cuttable (task_at sheet v.task) v (service_of run k t)) (job_kept run j k b))
-        (ap (λ (v : Job). m.cuttable (task_at sheet v.task) v (service_of run (length run.jobs) t)) (job_new run j (length run.jobs) refl) ∙ (ap (m.cuttable (task_at sheet j.task) j) (unserved (length run.jobs) (omega arith)) ∙ cut))
+        (ap (λ (v : Job). m.cuttable (task_at sheet v.task) v (service_of run (length run.jobs) t))
+        (job_new run j (length run.jobs) refl) ∙
+        (ap (m.cuttable (task_at sheet j.task) j) (unserved (length run.jobs) (omega arith)) ∙ cut))
         kept.segment;
     within = within_more run.jobs j kept.within few short;
   }
 
   later : (k : ℕ) → k < length run.jobs → IsKnown m sheet (suc t) (job_at run k)
-  later k b = let h = kept.known k b in record { task = h.task; arrived = omega (arith, h.arrived); cost = h.cost; fits = h.fits; floats = h.floats }
+  later k b = let h = kept.known k b in record { task = h.task; arrived = omega (arith, h.arrived); prompt = h.prompt; cost = h.cost; fits = h.fits; floats = h.floats }
 
   listed_then : (y : Tick) → ((k : ℕ) → y ≡ Runs k → k < length run.jobs) → (u k : ℕ) → u < suc t → tick_at (with_tick run y) u ≡ Runs k → k < length run.jobs
   listed_then y listed u k b e = elim (cases_lt u t) [
@@ -112,7 +128,8 @@ module _ (p : PolicyMeaning) (m : CutMeaning) (sheet : SheetParts) (t : ℕ) (ru
   pub kept_tick : (y : Tick) → ((k : ℕ) → runs k y ≡ false) → ((k : ℕ) → y ≢ Runs k) → IsKeptAt p m sheet (suc t) (with_tick run y) left queue x
   unfolding with_tick
   kept_tick y quiet ne =
-      let same : (k : ℕ) → service_of (with_tick run y) k (suc t) ≡ service_of run k t = λ k. omega (arith, service_new run y k t kept.now, ap (λ (b : Bool). cond {A = ℕ} b 1 0) (quiet k)) in
+      let same : (k : ℕ) → service_of (with_tick run y) k (suc t) ≡ service_of run k t =
+      λ k. omega (arith, service_new run y k t kept.now, ap (λ (b : Bool). cond {A = ℕ} b 1 0) (quiet k)) in
       record {
         now = omega (arith, ticks_more run y, kept.now);
         known = later;
@@ -120,17 +137,24 @@ module _ (p : PolicyMeaning) (m : CutMeaning) (sheet : SheetParts) (t : ℕ) (ru
         lefts = kept.lefts;
         amounts = λ k b. omega (arith, kept.amounts k b, same k);
         waiting = kept.waiting;
-        segment = only_same (λ k. can_cut m sheet run k t) (λ k. can_cut m sheet (with_tick run y) k (suc t)) (length run.jobs) x (λ k b. ap (m.cuttable (task_at sheet (job_at run k).task) (job_at run k)) (same k)) kept.segment;
+        segment =
+            only_same (λ k. can_cut m sheet run k t) (λ k. can_cut m sheet (with_tick run y) k (suc t)) (length run.jobs) x
+            (λ k b. ap (m.cuttable (task_at sheet (job_at run k).task) (job_at run k)) (same k)) kept.segment;
         within = kept.within;
       }
 
   -- a tick that runs j
-  pub kept_run : (j rest : ℕ) (after : BTreeMap Rank ℕ) (cut : Bool) → j < length run.jobs → CanRun x j → left_at left j ≡ suc rest → IsQueue p sheet run.jobs (set left j rest) after → cut ≡ m.cuttable (task_at sheet (job_at run j).task) (job_at run j) ((job_at run j).cost - rest)
+  pub kept_run : (j rest : ℕ) (after : BTreeMap Rank ℕ) (cut : Bool) → j < length run.jobs → CanRun x j →
+      left_at left j ≡ suc rest → IsQueue p sheet run.jobs (set left j rest) after →
+      cut ≡ m.cuttable (task_at sheet (job_at run j).task) (job_at run j) ((job_at run j).cost - rest)
       → IsKeptAt p m sheet (suc t) (with_tick run (Runs j)) (set left j rest) after (cond cut None (Some j))
   unfolding with_tick
   kept_run j rest after cut b can amount waiting is_cut =
-      let here : service_of (with_tick run (Runs j)) j (suc t) ≡ suc (service_of run j t) = omega (arith, service_new run (Runs j) j t kept.now, ap (λ (b : Bool). cond {A = ℕ} b 1 0) (eq-eqb j j refl)) in
-      let other : (k : ℕ) → k ≢ j → service_of (with_tick run (Runs j)) k (suc t) ≡ service_of run k t = λ k ne. omega (arith, service_new run (Runs j) k t kept.now, ap (λ (b : Bool). cond {A = ℕ} b 1 0) (ne_eqb j k (λ e. ne (sym e)))) in
+      let here : service_of (with_tick run (Runs j)) j (suc t) ≡ suc (service_of run j t) =
+      omega (arith, service_new run (Runs j) j t kept.now, ap (λ (b : Bool). cond {A = ℕ} b 1 0) (eq-eqb j j refl)) in
+      let other : (k : ℕ) → k ≢ j → service_of (with_tick run (Runs j)) k (suc t) ≡ service_of run k t =
+      λ k ne. omega
+      (arith, service_new run (Runs j) k t kept.now, ap (λ (b : Bool). cond {A = ℕ} b 1 0) (ne_eqb j k (λ e. ne (sym e)))) in
       let given : (job_at run j).cost - rest ≡ service_of (with_tick run (Runs j)) j (suc t) = omega (arith, kept.amounts j b, here) in
       let new_cut : can_cut m sheet (with_tick run (Runs j)) j (suc t) ≡ cut = ap (m.cuttable (task_at sheet (job_at run j).task) (job_at run j)) (sym given) ∙ sym is_cut in
       record {
@@ -139,16 +163,27 @@ module _ (p : PolicyMeaning) (m : CutMeaning) (sheet : SheetParts) (t : ℕ) (ru
         listed = listed_then (Runs j) (λ k e. (let is_j : j ≡ k = cc in omega arith));
         lefts = omega (arith, length-set left j rest, kept.lefts);
         amounts = λ k c. elim (cases_eq k j) [
-          | inl e ↦ omega (arith, kept.amounts j b, here, get_or-set_same left j rest 0 (omega (arith, kept.lefts)), ap (λ i. left_at (set left j rest) i) e, ap (λ i. service_of (with_tick run (Runs j)) i (suc t)) e, ap (λ i. (job_at run i).cost) e)
+          | inl e ↦
+              omega (
+                arith,
+                kept.amounts j b,
+                here,
+                get_or-set_same left j rest 0 (omega (arith, kept.lefts)),
+                ap (λ i. left_at (set left j rest) i) e,
+                ap (λ i. service_of (with_tick run (Runs j)) i (suc t)) e,
+                ap (λ i. (job_at run i).cost) e,
+              )
           | inr ne ↦ omega (arith, kept.amounts k c, other k ne, get_or-set_other left j k rest 0 ne)
         ];
         waiting = waiting;
         segment = subst (λ (v : Bool). OnlyInside (λ k. can_cut m sheet (with_tick run (Runs j)) k (suc t)) (length run.jobs) (cond v None (Some j))) new_cut
-            (only_ran (λ k. can_cut m sheet run k t) (λ k. can_cut m sheet (with_tick run (Runs j)) k (suc t)) (length run.jobs) j x b can (λ k c ne. ap (m.cuttable (task_at sheet (job_at run k).task) (job_at run k)) (other k ne)) kept.segment);
+            (only_ran (λ k. can_cut m sheet run k t) (λ k. can_cut m sheet (with_tick run (Runs j)) k (suc t)) (length run.jobs) j
+            x b can (λ k c ne. ap (m.cuttable (task_at sheet (job_at run k).task) (job_at run k)) (other k ne)) kept.segment);
         within = kept.within;
       }
 
--- the definition finds the job that the machine has inside a segment
-pub kept_inside : (w : World) (t : ℕ) (run : Run) (left : List ℕ) (queue : BTreeMap Rank ℕ) (x : Option ℕ) → IsKeptAt w.policy w.cuts w.sheet t run left queue x → inside_segment w run t ≡ x
+-- the definition finds the job that the simulation has inside a segment
+pub kept_inside : (w : World) (t : ℕ) (run : Run) (left : List ℕ) (queue : BTreeMap Rank ℕ) (x : Option ℕ) →
+    IsKeptAt w.policy w.cuts w.sheet t run left queue x → inside_segment w run t ≡ x
 unfolding inside_segment
 kept_inside w t run left queue x kept = only_first (λ k. can_cut w.cuts w.sheet run k t) (length run.jobs) x kept.segment

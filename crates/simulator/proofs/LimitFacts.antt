@@ -12,7 +12,7 @@ use Rattle.simulated_run.proofs.GrowthFacts.{BeginsWith, length_more}
 use Rattle.simulator.specs.declared.refusal.SimRefusal.{SimRefusal}
 use Rattle.simulator.specs.declared.refusal.SimRefusal.TheVariants.{Jobs, Segments, Memory}
 use Rattle.simulator.specs.Simulations.{passed_at, refused_by, IsRefusal}
-use Rattle.simulator.specs.Kept.{IsWithin}
+use Rattle.simulator.specs.SimulationState.{IsWithin}
 
 ge-ltb : (m n : ℕ) → n ≤ m → ltb m n ≡ false
 ge-ltb m n h = grind (arith, nat_tests)
@@ -27,7 +27,9 @@ same_first f g zero h = refl
 same_first f g (suc n) h = rw (same_first f g n (λ k b. h k (omega arith)), h n (omega arith)) refl
 
 passed_front : (jobs more : List Job) (k : ℕ) → k < length jobs → passed_at (jobs ++ more) k ≡ passed_at jobs k
-passed_front jobs more k h = ap (λ (l : List Job). first_of (must (ltb k 20000) Jobs) (must (leb (segments_of l) 1000000) Segments)) (take-append-le (k + 1) jobs more (omega arith))
+passed_front jobs more k h =
+    ap (λ (l : List Job). first_of (must (ltb k 20000) Jobs) (must (leb (segments_of l) 1000000) Segments))
+    (take-append-le (k + 1) jobs more (omega arith))
 
 -- the limit that one more job passes
 refused_more : (jobs : List Job) (j : Job) → refused_by (jobs ++ j ∷ []) ≡ first_of (refused_by jobs) (passed_at (jobs ++ j ∷ []) (length jobs))
@@ -47,11 +49,24 @@ module _ (jobs : List Job) (j : Job) (within : IsWithin jobs) where
   pub too_many_segments : length jobs < 20000 → 1000000 < segments_of jobs + length j.segs → refused_by (jobs ++ j ∷ []) ≡ Some Segments
   too_many_segments few h =
       refused_more jobs j
-      ∙ rw (within.none, must_from (ltb (length jobs) 20000) Jobs (lt-ltb _ _ few), segments_then jobs j, must_fails (leb (segments_of jobs + length j.segs) 1000000) Segments (lt-leb _ _ h)) refl
+      ∙ rw (
+        within.none,
+        must_from (ltb (length jobs) 20000) Jobs (lt-ltb _ _ few),
+        segments_then jobs j,
+        must_fails (leb (segments_of jobs + length j.segs) 1000000) Segments (lt-leb _ _ h),
+      )
+      refl
 
   pub within_more : length jobs < 20000 → segments_of jobs + length j.segs ≤ 1000000 → IsWithin (jobs ++ j ∷ [])
   within_more few h = record {
-    none = refused_more jobs j ∙ rw (within.none, must_from (ltb (length jobs) 20000) Jobs (lt-ltb _ _ few), segments_then jobs j, must_from (leb (segments_of jobs + length j.segs) 1000000) Segments (le-leb _ _ h)) refl;
+    none =
+        refused_more jobs j ∙ rw (
+          within.none,
+          must_from (ltb (length jobs) 20000) Jobs (lt-ltb _ _ few),
+          segments_then jobs j,
+          must_from (leb (segments_of jobs + length j.segs) 1000000) Segments (le-leb _ _ h),
+        )
+        refl;
     few_jobs = omega (arith, length_more jobs j);
     few_segments = omega (arith, segments_more jobs j);
   }
@@ -72,7 +87,8 @@ refused_on : (xs ys : List Job) (e : SimRefusal) → BeginsWith xs ys → refuse
 unfolding refused_by
 refused_on xs ys e b h =
     let front : first_below (passed_at (ys ++ b.rest)) (length ys) ≡ Some e = same_first _ _ (length ys) (passed_front ys b.rest) ∙ h in
-    let whole : first_below (passed_at (ys ++ b.rest)) (length (ys ++ b.rest)) ≡ Some e = first_then _ e (length ys) (length (ys ++ b.rest)) (omega (arith, length-append ys b.rest)) front in
+    let whole : first_below (passed_at (ys ++ b.rest)) (length (ys ++ b.rest)) ≡ Some e =
+    first_then _ e (length ys) (length (ys ++ b.rest)) (omega (arith, length-append ys b.rest)) front in
     subst (λ (l : List Job). first_below (passed_at l) (length l) ≡ Some e) b.whole whole
 
 pub refusal_on : (xs ys : List Job) (e : SimRefusal) → BeginsWith xs ys → IsRefusal ys e → IsRefusal xs e

@@ -16,7 +16,8 @@ use Rattle.simulator.specs.Loads.{IsLoad}
 use Rattle.simulated_run.proofs.JobFacts.{drawn_length, drawn_sum_high}
 
 -- one more segment is drawn
-pub drawn_next : (gs done : List ℕ) (i d state : ℕ) → i < length gs → done ++ (drawn_cost (get_or gs i d) state ∷ []) ++ drawn_segments (drop (i + 1) gs) (next state) ≡ done ++ drawn_segments (drop i gs) state
+pub drawn_next : (gs done : List ℕ) (i d state : ℕ) → i < length gs →
+    done ++ (drawn_cost (get_or gs i d) state ∷ []) ++ drawn_segments (drop (i + 1) gs) (next state) ≡ done ++ drawn_segments (drop i gs) state
 drawn_next gs done i d state h =
     let e : drop i gs ≡ get_or gs i d ∷ drop (i + 1) gs = rw add-one (drop-cons gs i d h) in
     append_assoc done (drawn_cost (get_or gs i d) state ∷ []) (drawn_segments (drop (i + 1) gs) (next state)) ∙ ap (λ (l : List ℕ). done ++ drawn_segments l state) (sym e)
@@ -45,14 +46,19 @@ fixed_length (Seed seed) gs cost state = drawn_length gs state
 pub drawn_small : (most : ℕ) (gs : List ℕ) (state : ℕ) → CutFits most (Fixed gs) → sum (drawn_segments gs state) ≤ most
 drawn_small most gs state f = omega (arith, drawn_sum_high gs state (positive_of most gs f), f.1)
 
-pub drawn_more : (gs done all longer : List ℕ) (i d cost state later : ℕ) → i < length gs → cost ≡ drawn_cost (get_or gs i d) state → later ≡ next state → longer ≡ done ++ cost ∷ [] → done ++ drawn_segments (drop i gs) state ≡ all → longer ++ drawn_segments (drop (i + 1) gs) later ≡ all
+pub drawn_more : (gs done all longer : List ℕ) (i d cost state later : ℕ) → i < length gs →
+    cost ≡ drawn_cost (get_or gs i d) state → later ≡ next state → longer ≡ done ++ cost ∷ [] →
+    done ++ drawn_segments (drop i gs) state ≡ all → longer ++ drawn_segments (drop (i + 1) gs) later ≡ all
 drawn_more gs done all longer i d cost state later h e f g k = let n = drawn_next gs done i d state h in cc
 
 pub after_more : (n i state later last : ℕ) → i < n → later ≡ next state → after (n - i) state ≡ last → after (n - (i + 1)) later ≡ last
 after_more n i state later last h e k = ap (λ (s : ℕ). after (n - (i + 1)) s) e ∙ (after_next n i state h ∙ k)
 
 -- the load that a seed draws for fixed segments
-pub drawn_load : (mode : Mode) (seed most state spare : ℕ) (gs : List ℕ) (load : Load) → mode ≡ Seed seed → length gs ≤ spare → load.cost ≡ sum load.segs.items → load.segs.items ≡ drawn_segments gs state → IsLoad mode (Fixed gs) most state spare load
+pub drawn_load : (mode : Mode) (seed most state spare : ℕ) (gs : List ℕ) (load : Load) → mode ≡ Seed seed →
+    length gs ≤ spare → load.cost ≡ sum load.segs.items → load.segs.items ≡ drawn_segments gs state →
+    IsLoad mode (Fixed gs) most state spare load
 drawn_load mode seed most state spare gs load e few cost segs =
-    let done : IsLoad (Seed seed) (Fixed gs) most state spare load = record { cost = cost ∙ ap sum segs; segs = segs; few = omega (arith, ap length segs, drawn_length gs state) } in
+    let done : IsLoad (Seed seed) (Fixed gs) most state spare load =
+    record { cost = cost ∙ ap sum segs; segs = segs; few = omega (arith, ap length segs, drawn_length gs state) } in
     subst (λ (m : Mode). IsLoad m (Fixed gs) most state spare load) (sym e) done

@@ -22,15 +22,17 @@ use Rattle.run_model.specs.Runs.{no_job, is_pending}
 use Rattle.simulated_run.specs.SimulatedRun.{World, most_urgent, comes_before}
 use Rattle.simulated_run.proofs.GrowthFacts.{length_more}
 use Rattle.simulated_run.proofs.OrderFacts.{comes_before_is}
-use Rattle.simulator.specs.declared.machine.Rank.{Rank}
+use Rattle.simulator.specs.declared.simulation.Rank.{Rank}
 use Rattle.simulator.specs.Ranks.{rank_at, rank_of, rank_cmp}
-use Rattle.simulator.specs.Kept.{IsEntry, IsQueue, left_at}
+use Rattle.simulator.specs.SimulationState.{IsEntry, IsQueue, left_at}
 
 -- ranks
 
 pub rank_total : IsTotalOrder rank_cmp
 rank_total =
-    then_total (on_total (λ (r : Rank). r.high) int_cmp_total) (then_total (on_total (λ (r : Rank). r.low) int_cmp_total) (then_total (on_total (λ (r : Rank). r.task) nat_cmp_total) (then_total (on_total (λ (r : Rank). r.arrival) nat_cmp_total) (on_total (λ (r : Rank). r.number) nat_cmp_total))))
+    then_total (on_total (λ (r : Rank). r.high) int_cmp_total)
+    (then_total (on_total (λ (r : Rank). r.low) int_cmp_total)
+    (then_total (on_total (λ (r : Rank). r.task) nat_cmp_total) (then_total (on_total (λ (r : Rank). r.arrival) nat_cmp_total) (on_total (λ (r : Rank). r.number) nat_cmp_total))))
 
 eq_tells : (o : Ordering) → is_eq o ≡ true → o ≡ Equal
 eq_tells Less h = absurd (cc)
@@ -85,7 +87,10 @@ module _ (p : PolicyMeaning) (sheet : SheetParts) where
   rank_kept jobs j k h = ap (λ (x : Job). rank_at p sheet x k) (get_or_append_left jobs (j ∷ []) no_job k h)
 
   -- a new job
-  pub queue_push : (jobs : List Job) (left : List ℕ) (queue after : BTreeMap Rank ℕ) (j : Job) (c n : ℕ) → length jobs ≡ n → length left ≡ n → 0 < c → IsQueue p sheet jobs left queue → Updates rank_cmp queue after (rank_at p sheet j n) (Some n) → IsQueue p sheet (jobs ++ j ∷ []) (left ++ c ∷ []) after
+  pub queue_push : (jobs : List Job) (left : List ℕ) (queue after : BTreeMap Rank ℕ) (j : Job) (c n : ℕ) →
+      length jobs ≡ n → length left ≡ n → 0 < c → IsQueue p sheet jobs left queue →
+      Updates rank_cmp queue after (rank_at p sheet j n) (Some n) →
+      IsQueue p sheet (jobs ++ j ∷ []) (left ++ c ∷ []) after
   queue_push jobs left queue after j c n lj ll pos q up =
       let r : Rank = rank_at p sheet j n in
       let of_new : r ≡ rank_of p sheet (jobs ++ j ∷ []) n = ap (λ (x : Job). rank_at p sheet x n) (sym (get_or_at jobs j [] no_job n lj)) in
@@ -95,15 +100,22 @@ module _ (p : PolicyMeaning) (sheet : SheetParts) where
           | inl e ↦
               let got : get rank_cmp after s ≡ Some n = up.0 s ∙ ap (λ (b : Bool). cond b (Some n) (get rank_cmp queue s)) e in
               let is_k : n ≡ k = cc in
-              let here : IsEntry p sheet (jobs ++ j ∷ []) (left ++ c ∷ []) s n = record { listed = omega (arith, length_more jobs j); waits = omega (arith, left_new); rank = sym (same_entry r s e) ∙ of_new } in
+              let here : IsEntry p sheet (jobs ++ j ∷ []) (left ++ c ∷ []) s n =
+              record { listed = omega (arith, length_more jobs j); waits = omega (arith, left_new); rank = sym (same_entry r s e) ∙ of_new } in
               subst (λ i. IsEntry p sheet (jobs ++ j ∷ []) (left ++ c ∷ []) s i) is_k here
           | inr e ↦
               let old : IsEntry p sheet jobs left s k = q.sound s k (sym (up.2 s e) ∙ h) in
-              record { listed = omega (arith, length_more jobs j, old.listed); waits = omega (arith, old.waits, get_or_append_left left (c ∷ []) 0 k (omega (arith, old.listed))); rank = old.rank ∙ sym (rank_kept jobs j k old.listed) }
+              record {
+                listed = omega (arith, length_more jobs j, old.listed);
+                waits = omega (arith, old.waits, get_or_append_left left (c ∷ []) 0 k (omega (arith, old.listed)));
+                rank = old.rank ∙ sym
+                    (rank_kept jobs j k old.listed);
+              }
         ];
         complete = λ k h l. elim (cases_lt k n) [
           | inl b ↦
-              let there : get rank_cmp queue (rank_of p sheet jobs k) ≡ Some k = q.complete k (omega arith) (omega (arith, l, get_or_append_left left (c ∷ []) 0 k (omega arith))) in
+              let there : get rank_cmp queue (rank_of p sheet jobs k) ≡ Some k =
+              q.complete k (omega arith) (omega (arith, l, get_or_append_left left (c ∷ []) 0 k (omega arith))) in
               let same : rank_of p sheet (jobs ++ j ∷ []) k ≡ rank_of p sheet jobs k = rank_kept jobs j k (omega arith) in
               ap (λ (x : Rank). get rank_cmp after x) same ∙ (up.2 (rank_of p sheet jobs k) (apart jobs r k (λ e. omega arith)) ∙ there)
           | inr b ↦
@@ -114,17 +126,25 @@ module _ (p : PolicyMeaning) (sheet : SheetParts) where
       }
 
   -- a job goes on
-  pub queue_run : (jobs : List Job) (left : List ℕ) (queue : BTreeMap Rank ℕ) (i c : ℕ) → i < length left → 0 < left_at left i → 0 < c → IsQueue p sheet jobs left queue → IsQueue p sheet jobs (set left i c) queue
+  pub queue_run : (jobs : List Job) (left : List ℕ) (queue : BTreeMap Rank ℕ) (i c : ℕ) → i < length left →
+      0 < left_at left i → 0 < c → IsQueue p sheet jobs left queue → IsQueue p sheet jobs (set left i c) queue
   queue_run jobs left queue i c b l pos q = record {
     sound = λ s k h. (
         let old : IsEntry p sheet jobs left s k = q.sound s k h in
-        record { listed = old.listed; rank = old.rank; waits = elim (cases_eq k i) [ inl e ↦ omega (arith, ap (left_at (set left i c)) e, get_or-set_same left i c 0 b) | inr ne ↦ omega (arith, old.waits, get_or-set_other left i k c 0 ne) ] }
+        record {
+          listed = old.listed;
+          rank = old.rank;
+          waits = elim (cases_eq k i)
+              [ inl e ↦ omega (arith, ap (left_at (set left i c)) e, get_or-set_same left i c 0 b) | inr ne ↦ omega (arith, old.waits, get_or-set_other left i k c 0 ne) ];
+        }
         );
     complete = λ k h m. q.complete k h (elim (cases_eq k i) [ inl e ↦ omega (arith, ap (left_at left) e) | inr ne ↦ omega (arith, m, get_or-set_other left i k c 0 ne) ]);
   }
 
   -- a job is done
-  pub queue_done : (jobs : List Job) (left : List ℕ) (queue after : BTreeMap Rank ℕ) (i : ℕ) → i < length left → IsQueue p sheet jobs left queue → Updates rank_cmp queue after (rank_of p sheet jobs i) None → IsQueue p sheet jobs (set left i 0) after
+  pub queue_done : (jobs : List Job) (left : List ℕ) (queue after : BTreeMap Rank ℕ) (i : ℕ) → i < length left →
+      IsQueue p sheet jobs left queue → Updates rank_cmp queue after (rank_of p sheet jobs i) None →
+      IsQueue p sheet jobs (set left i 0) after
   queue_done jobs left queue after i b q up = record {
     sound = λ s k h. elim (cases_Bool (is_at (rank_cmp (rank_of p sheet jobs i)) s)) [
       | inl e ↦
@@ -165,7 +185,9 @@ module _ (w : World) (run : Run) (left : List ℕ) (queue : BTreeMap Rank ℕ) (
       best_some (λ i. is_pending run i t) (comes_before w run) k (length run.jobs) here.listed (tells.waits k here.listed here.waits) (λ i b pending ne. (
       let there : get rank_cmp queue (rank_of w.policy w.sheet run.jobs i) ≡ Some i = q.complete i b (tells.over i b pending) in
       let some : IsSome (get rank_cmp queue (rank_of w.policy w.sheet run.jobs i)) = ap is_some there in
-      let g : is_gt (rank_cmp (rank_of w.policy w.sheet run.jobs k) (rank_of w.policy w.sheet run.jobs i)) ≡ false = subst (λ (x : Rank). is_gt (rank_cmp x (rank_of w.policy w.sheet run.jobs i)) ≡ false) is_r (low (rank_of w.policy w.sheet run.jobs i) some) in
+      let g : is_gt (rank_cmp (rank_of w.policy w.sheet run.jobs k) (rank_of w.policy w.sheet run.jobs i)) ≡ false =
+      subst (λ (x : Rank). is_gt (rank_cmp x (rank_of w.policy w.sheet run.jobs i)) ≡ false) is_r
+      (low (rank_of w.policy w.sheet run.jobs i) some) in
       let both = before (rank_of w.policy w.sheet run.jobs k) (rank_of w.policy w.sheet run.jobs i) g (λ e. ne (sym e)) in
       (comes_before_is w run k i ∙ both.0, comes_before_is w run i k ∙ both.1)
       ))
@@ -177,6 +199,7 @@ module _ (w : World) (run : Run) (left : List ℕ) (queue : BTreeMap Rank ℕ) (
         | inr f ↦ f
         | inl pending ↦
             let there : get rank_cmp queue (rank_of w.policy w.sheet run.jobs i) ≡ Some i = q.complete i b (tells.over i b pending) in
-            let none : get rank_cmp queue (rank_of w.policy w.sheet run.jobs i) ≡ None = ap (lookup (is_at (rank_cmp (rank_of w.policy w.sheet run.jobs i)))) (nil_from_length queue.entries empty) in
+            let none : get rank_cmp queue (rank_of w.policy w.sheet run.jobs i) ≡ None =
+            ap (lookup (is_at (rank_cmp (rank_of w.policy w.sheet run.jobs i)))) (nil_from_length queue.entries empty) in
             absurd (cc)
       ])

@@ -1,4 +1,4 @@
--- A run that the machine has made can be written.
+-- A run that the simulation has made can be written.
 use Rattle.std.proofs.Common.{◌≡◌, ℕ, zero, suc, ◌<◌, ◌≤◌, ◌==◌, true, List, [], ◌∷◌, length, get_or, sum, All, refl, sym, ◌∙◌, arith}
 use Rattle.std.proofs.lemmas.Bool.{and_parts, eqb-true}
 use Rattle.std.proofs.lemmas.List.Elements.{All-from_get_or}
@@ -20,8 +20,8 @@ use Rattle.run_model.specs.Runs.{no_job, job_at, tick_at}
 use Rattle.run_text.specs.Text.{IsSegment, IsJob, IsTickOf, IsWithinLimits}
 use Rattle.std.specs.BTreeMap.{BTreeMap}
 use Rattle.std.proofs.Common.{Option}
-use Rattle.simulator.specs.declared.machine.Rank.{Rank}
-use Rattle.simulator.specs.Kept.{IsKeptAt, IsKnown}
+use Rattle.simulator.specs.declared.simulation.Rank.{Rank}
+use Rattle.simulator.specs.SimulationState.{IsKeptAt, IsKnown}
 
 -- each of some numbers is at most their sum
 within_sum : (xs : List ℕ) (i : ℕ) → i < length xs → get_or xs i 0 ≤ sum xs
@@ -48,15 +48,22 @@ tick_of n Off h = tt
 tick_of n Idle h = tt
 tick_of n (Runs k) h = h k refl
 
-known_job : (m : CutMeaning) (sheet : SheetParts) (t : ℕ) (j : Job) → IsValidSheet sheet → ((o : ℕ) → o < length sheet.tasks → IsTabledCut m (task_at sheet o)) → t ≤ 100000 → IsKnown m sheet t j → IsJob j
+known_job : (m : CutMeaning) (sheet : SheetParts) (t : ℕ) (j : Job) → IsValidSheet sheet →
+    ((o : ℕ) → o < length sheet.tasks → IsTabledCut m (task_at sheet o)) → t ≤ 100000 → IsKnown m sheet t j → IsJob j
 known_job m sheet t j valid tabled h known = record {
   task = omega (arith, known.task, valid.few);
   arrival = omega (arith, known.arrived);
+  released = known.prompt;
   cost = known.cost;
-  segs = cut_segments (task_at sheet j.task).cut j (and_parts (is_between 1 (task_at sheet j.task).cost j.cost) _ (sym ((tabled j.task known.task).same_fits j) ∙ known.fits)).1 known.cost;
+  segs =
+      cut_segments (task_at sheet j.task).cut j
+      (and_parts (is_between 1 (task_at sheet j.task).cost j.cost) _ (sym ((tabled j.task known.task).same_fits j) ∙ known.fits)).1
+      known.cost;
 }
 
-pub kept_within : (p : PolicyMeaning) (m : CutMeaning) (sheet : SheetParts) (t : ℕ) (run : Run) (left : List ℕ) (queue : BTreeMap Rank ℕ) (x : Option ℕ) → IsKeptAt p m sheet t run left queue x → IsValidSheet sheet → ((o : ℕ) → o < length sheet.tasks → IsTabledCut m (task_at sheet o)) → t ≤ 100000 → IsWithinLimits run
+pub kept_within : (p : PolicyMeaning) (m : CutMeaning) (sheet : SheetParts) (t : ℕ) (run : Run) (left : List ℕ) (queue : BTreeMap Rank ℕ) (x : Option ℕ) →
+    IsKeptAt p m sheet t run left queue x → IsValidSheet sheet →
+    ((o : ℕ) → o < length sheet.tasks → IsTabledCut m (task_at sheet o)) → t ≤ 100000 → IsWithinLimits run
 kept_within p m sheet t run left queue x kept valid tabled h = record {
   few_jobs = kept.within.few_jobs;
   few_ticks = omega (arith, kept.now);

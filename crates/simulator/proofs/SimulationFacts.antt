@@ -12,16 +12,16 @@ use Rattle.run_model.specs.declared.run.Tick.{Tick}
 use Rattle.simulated_run.specs.SimulatedRun.{World, Moment, seed_of, moment_after, simulated_run, arrive_below}
 use Rattle.simulated_run.proofs.GrowthFacts.{begins_trans, moment_extends, moments_in_turn}
 use Rattle.windows.proofs.TickCounts.{counts_start}
-use Rattle.simulator.specs.declared.machine.Rank.{Rank}
+use Rattle.simulator.specs.declared.simulation.Rank.{Rank}
 use Rattle.simulator.specs.declared.refusal.SimRefusal.{SimRefusal}
 use Rattle.simulator.specs.declared.refusal.SimRefusal.TheVariants.{Jobs, Segments, Memory}
 use Rattle.simulator.specs.Simulations.{refused_by, simulation_of, IsSimulation, IsRefusal}
 use Rattle.simulator.specs.Ranks.{rank_cmp}
-use Rattle.simulator.specs.Kept.{IsKeptAt, IsKeptBy, IsQueue}
+use Rattle.simulator.specs.SimulationState.{IsKeptAt, IsKeptBy, IsQueue}
 use Rattle.simulator.proofs.LimitFacts.{none_within, refusal_on}
 use Rattle.simulator.proofs.WindowFacts.{has_no_arrivals}
 
--- the machine before the first tick
+-- the simulation before the first tick
 
 abbrev pub no_run : Run
 no_run = record { jobs = []; ticks = [] }
@@ -32,7 +32,8 @@ empty_queue p sheet queue e = record {
   complete = λ k h. absurd (omega arith);
 }
 
-pub kept_first : (p : PolicyMeaning) (m : CutMeaning) (sheet : SheetParts) (run : Run) (left : List ℕ) (queue : BTreeMap Rank ℕ) (lists : List (Vec ℕ)) (sums : List ℕ) → run ≡ no_run → left ≡ [] → queue.entries ≡ [] → length lists ≡ length sheet.tasks
+pub kept_first : (p : PolicyMeaning) (m : CutMeaning) (sheet : SheetParts) (run : Run) (left : List ℕ) (queue : BTreeMap Rank ℕ) (lists : List (Vec ℕ)) (sums : List ℕ) →
+    run ≡ no_run → left ≡ [] → queue.entries ≡ [] → length lists ≡ length sheet.tasks
     → ((o : ℕ) (d : Vec ℕ) → o < length sheet.tasks → (get_or lists o d).items ≡ []) → sums ≡ 0 ∷ [] → IsKeptBy p m sheet 0 run left queue None 0 lists sums
 kept_first p m sheet run left queue lists sums is_run is_left is_queue len none is_sums =
     let jobs : IsKeptAt p m sheet 0 no_run [] queue None = record {
@@ -76,14 +77,19 @@ refusal_is w n Segments h = refused_run w n Segments h
 refusal_is w n Memory h = tt
 
 -- what refuses the arrivals at t refuses the run
-pub refused : (w : World) (n t : ℕ) (e : SimRefusal) → t < n → IsRefusal (arrive_below w t (length w.sheet.tasks) (moment_after w t)).run.jobs e → IsSimulation w n (Err e)
+pub refused : (w : World) (n t : ℕ) (e : SimRefusal) → t < n →
+    IsRefusal (arrive_below w t (length w.sheet.tasks) (moment_after w t)).run.jobs e → IsSimulation w n (Err e)
 refused w n t e h r = refusal_is w n e (refusal_on _ _ e (begins_trans _ _ _ (moments_in_turn w (suc t) n (omega arith)) (moment_extends w t)) r)
 
 pub no_run_is : (jobs : List Job) (ticks : List Tick) → jobs ≡ [] → ticks ≡ [] → (let r : Run = record { jobs = jobs; ticks = ticks } in r) ≡ no_run
 no_run_is jobs ticks e f = cc
 
-pub first_moment : (w : World) (run : Run) (state : ℕ) → run ≡ no_run → state ≡ seed_of w w.mode → (let r : Moment = record { run = run; state = state } in r) ≡ moment_after w 0
+pub first_moment : (w : World) (run : Run) (state : ℕ) → run ≡ no_run → state ≡ seed_of w w.mode →
+    (let r : Moment = record { run = run; state = state } in r) ≡ moment_after w 0
 first_moment w run state e f = cc
 
-pub run_is : (run : Run) (jobs : List Job) (ticks : List Tick) → jobs ≡ run.jobs → ticks ≡ run.ticks → (let r : Run = record { jobs = jobs; ticks = ticks } in r) ≡ run
-run_is run jobs ticks e f = ap (λ (l : List Job). (let r : Run = record { jobs = l; ticks = ticks } in r)) e ∙ ap (λ (l : List Tick). (let r : Run = record { jobs = run.jobs; ticks = l } in r)) f
+pub run_is : (run : Run) (jobs : List Job) (ticks : List Tick) → jobs ≡ run.jobs → ticks ≡ run.ticks →
+    (let r : Run = record { jobs = jobs; ticks = ticks } in r) ≡ run
+run_is run jobs ticks e f =
+    ap (λ (l : List Job). (let r : Run = record { jobs = l; ticks = ticks } in r)) e ∙ ap
+    (λ (l : List Tick). (let r : Run = record { jobs = run.jobs; ticks = l } in r)) f

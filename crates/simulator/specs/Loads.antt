@@ -1,4 +1,4 @@
--- What a new job needs.
+-- What a new job needs, as the code draws it. Nothing here is to be believed.
 use Rattle.std.specs.Prelude.{◌≡◌, ℕ, ◌<◌, ◌≤◌, List, length}
 use Rattle.task_sheet.specs.declared.tasks.Cut.{Cut}
 use Rattle.simulated_run.specs.declared.mode.Mode.{Mode}

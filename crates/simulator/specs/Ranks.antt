@@ -1,4 +1,4 @@
--- Ranks of jobs.
+-- Ranks of jobs, the keys of the code's queue. Nothing here is to be believed.
 use Rattle.std.specs.Prelude.{ℕ, List, slice_index_or}
 use Rattle.std.specs.declared.cmp.Ordering.{Ordering}
 use Rattle.std.specs.Ordering.{nat_cmp, int_cmp, ordering_then}
@@ -6,7 +6,7 @@ use Rattle.task_sheet.specs.SheetParts.{SheetParts}
 use Rattle.task_sheet.specs.declared.tasks.Job.{Job}
 use Rattle.policy.specs.PolicyMeaning.{PolicyMeaning}
 use Rattle.run_model.specs.Runs.{no_job}
-use Rattle.simulator.specs.declared.machine.Rank.{Rank}
+use Rattle.simulator.specs.declared.simulation.Rank.{Rank}
 
 -- the rank of a job with this number
 abbrev pub rank_at : PolicyMeaning → SheetParts → Job → ℕ → Rank

@@ -4,11 +4,11 @@ ghost use Rattle.task_sheet.specs.Sheets.{task_at};
 ghost use Rattle.preemption.specs.CutLaws.{Serves};
 ghost use Rattle.simulated_run.specs.SimulatedRun.{with_job, add_job as add_job_by, add_jobs as add_jobs_by, arrive_of as arrive_of_by, arrive_below, moment_after};
 ghost use Rattle.simulator.specs.Simulations.{IsRefusal};
-ghost use Rattle.simulator.specs.Kept.{IsKept, IsNew, world_by, run_of, moment_of};
+ghost use Rattle.simulator.specs.SimulationState.{IsKept, IsNew, world_by, run_of, moment_of};
 
 use crate::loads::draw_load;
-use crate::machine::{Machine, rank_of};
 use crate::refusal::SimRefusal;
+use crate::simulation::{Simulation, rank_of};
 use crate::words::draw_count;
 use lists::Items;
 use policy::Policy;
@@ -27,24 +27,24 @@ const MOST_SEGMENTS: usize = 1_000_000;
 /// Takes up a job that has just arrived.
 fn keep_job<P: Policy, M: Preemption>(
     sheet: &Sheet,
-    machine: &mut Machine,
+    simulation: &mut Simulation,
     job: Job,
 ) -> Result<(), AllocError>
     requires time { job.arrival ≤ 100000 }
-    requires new { IsNew M.cuts sheet.now machine.old.jobs.items job }
-    requires kept { IsKept P.meaning M.cuts sheet.now job.arrival machine.old }
-    ensures run { OnOk result (run_of machine.new ≡ with_job (run_of machine.old) job) }
-    ensures words { machine.new.words ≡ machine.old.words }
-    ensures kept { OnOk result (IsKept P.meaning M.cuts sheet.now job.arrival machine.new) }
+    requires new { IsNew M.cuts sheet.now simulation.old.jobs.items job }
+    requires kept { IsKept P.meaning M.cuts sheet.now job.arrival simulation.old }
+    ensures run { OnOk result (run_of simulation.new ≡ with_job (run_of simulation.old) job) }
+    ensures words { simulation.new.words ≡ simulation.old.words }
+    ensures kept { OnOk result (IsKept P.meaning M.cuts sheet.now job.arrival simulation.new) }
 {
-    let number = machine.jobs.len() as u32;
+    let number = simulation.jobs.len() as u32;
     let rank = rank_of::<P>(sheet, &job, number);
-    machine.segments += job.segs.len();
-    let list = &mut machine.arrivals[job.task as usize];
+    simulation.segments += job.segs.len();
+    let list = &mut simulation.arrivals[job.task as usize];
     list.push(job.arrival)?;
-    machine.left.push(job.cost)?;
-    machine.queue.insert(rank, number)?;
-    machine.jobs.push(job)?;
+    simulation.left.push(job.cost)?;
+    simulation.queue.insert(rank, number)?;
+    simulation.jobs.push(job)?;
     Ok(())
 }
 
@@ -53,31 +53,39 @@ fn add_job<P: Policy, M: Tabled>(
     alloc: Global,
     sheet: &Sheet,
     mode: Mode,
-    machine: &mut Machine,
+    simulation: &mut Simulation,
     o: u32,
     t: u64,
 ) -> Result<(), SimRefusal>
     requires task { o < length sheet.now.tasks }
     requires time { t ≤ 100000 }
     requires served { Serves M.cuts sheet.now }
-    requires kept { IsKept P.meaning M.cuts sheet.now t machine.old }
-    ensures moment { OnOk result (moment_of machine.new ≡ add_job_by (world_by P.meaning M.cuts sheet.now mode) o t (moment_of machine.old)) }
-    ensures kept { OnOk result (IsKept P.meaning M.cuts sheet.now t machine.new) }
-    ensures refusal { IfErr result (IsRefusal (add_job_by (world_by P.meaning M.cuts sheet.now mode) o t (moment_of machine.old)).run.jobs) }
+    requires kept { IsKept P.meaning M.cuts sheet.now t simulation.old }
+    ensures moment { OnOk result (moment_of simulation.new ≡ add_job_by (world_by P.meaning M.cuts sheet.now mode) o t (moment_of simulation.old)) }
+    ensures kept { OnOk result (IsKept P.meaning M.cuts sheet.now t simulation.new) }
+    ensures refusal { IfErr result (IsRefusal (add_job_by (world_by P.meaning M.cuts sheet.now mode) o t (moment_of simulation.old)).run.jobs) }
 {
-    if machine.jobs.len() >= MOST_JOBS {
+    if simulation.jobs.len() >= MOST_JOBS {
         return Err(SimRefusal::Jobs);
     }
     let task = sheet.task(o);
-    let spare = MOST_SEGMENTS - machine.segments;
-    let load = draw_load(alloc, mode, &task.cut, task.cost, spare, &mut machine.words)?;
+    let spare = MOST_SEGMENTS - simulation.segments;
+    let load = draw_load(
+        alloc,
+        mode,
+        &task.cut,
+        task.cost,
+        spare,
+        &mut simulation.words,
+    )?;
     let job = Job {
         task: o,
         arrival: t,
+        release: t,
         cost: load.cost,
         segs: Items::new(load.segs),
     };
-    keep_job::<P, M>(sheet, machine, job)?;
+    keep_job::<P, M>(sheet, simulation, job)?;
     Ok(())
 }
 
@@ -86,7 +94,7 @@ fn add_jobs<P: Policy, M: Tabled>(
     alloc: Global,
     sheet: &Sheet,
     mode: Mode,
-    machine: &mut Machine,
+    simulation: &mut Simulation,
     o: u32,
     t: u64,
     n: u64,
@@ -94,13 +102,13 @@ fn add_jobs<P: Policy, M: Tabled>(
     requires task { o < length sheet.now.tasks }
     requires time { t ≤ 100000 }
     requires served { Serves M.cuts sheet.now }
-    requires kept { IsKept P.meaning M.cuts sheet.now t machine.old }
-    ensures moment { OnOk result (moment_of machine.new ≡ add_jobs_by (world_by P.meaning M.cuts sheet.now mode) o t n (moment_of machine.old)) }
-    ensures kept { OnOk result (IsKept P.meaning M.cuts sheet.now t machine.new) }
-    ensures refusal { IfErr result (IsRefusal (add_jobs_by (world_by P.meaning M.cuts sheet.now mode) o t n (moment_of machine.old)).run.jobs) }
+    requires kept { IsKept P.meaning M.cuts sheet.now t simulation.old }
+    ensures moment { OnOk result (moment_of simulation.new ≡ add_jobs_by (world_by P.meaning M.cuts sheet.now mode) o t n (moment_of simulation.old)) }
+    ensures kept { OnOk result (IsKept P.meaning M.cuts sheet.now t simulation.new) }
+    ensures refusal { IfErr result (IsRefusal (add_jobs_by (world_by P.meaning M.cuts sheet.now mode) o t n (moment_of simulation.old)).run.jobs) }
 {
     for i in 0..n {
-        add_job::<P, M>(alloc, sheet, mode, machine, o, t)?;
+        add_job::<P, M>(alloc, sheet, mode, simulation, o, t)?;
     }
     Ok(())
 }
@@ -110,23 +118,23 @@ fn arrive_of<P: Policy, M: Tabled>(
     alloc: Global,
     sheet: &Sheet,
     mode: Mode,
-    machine: &mut Machine,
+    simulation: &mut Simulation,
     o: u32,
     t: u64,
 ) -> Result<(), SimRefusal>
     requires task { o < length sheet.now.tasks }
     requires time { t ≤ 100000 }
     requires served { Serves M.cuts sheet.now }
-    requires kept { IsKept P.meaning M.cuts sheet.now t machine.old }
-    requires stage { moment_of machine.old ≡ arrive_below (world_by P.meaning M.cuts sheet.now mode) t o (moment_after (world_by P.meaning M.cuts sheet.now mode) t) }
-    ensures moment { OnOk result (moment_of machine.new ≡ arrive_of_by (world_by P.meaning M.cuts sheet.now mode) o t (moment_of machine.old)) }
-    ensures kept { OnOk result (IsKept P.meaning M.cuts sheet.now t machine.new) }
-    ensures refusal { IfErr result (IsRefusal (arrive_of_by (world_by P.meaning M.cuts sheet.now mode) o t (moment_of machine.old)).run.jobs) }
+    requires kept { IsKept P.meaning M.cuts sheet.now t simulation.old }
+    requires stage { moment_of simulation.old ≡ arrive_below (world_by P.meaning M.cuts sheet.now mode) t o (moment_after (world_by P.meaning M.cuts sheet.now mode) t) }
+    ensures moment { OnOk result (moment_of simulation.new ≡ arrive_of_by (world_by P.meaning M.cuts sheet.now mode) o t (moment_of simulation.old)) }
+    ensures kept { OnOk result (IsKept P.meaning M.cuts sheet.now t simulation.new) }
+    ensures refusal { IfErr result (IsRefusal (arrive_of_by (world_by P.meaning M.cuts sheet.now mode) o t (moment_of simulation.old)).run.jobs) }
 {
     let curve = &sheet.task(o).curve;
-    let room = allowance(curve, &machine.arrivals[o as usize], t);
-    let n = draw_count(mode, room, &mut machine.words);
-    add_jobs::<P, M>(alloc, sheet, mode, machine, o, t, n)
+    let room = allowance(curve, &simulation.arrivals[o as usize], t);
+    let n = draw_count(mode, room, &mut simulation.words);
+    add_jobs::<P, M>(alloc, sheet, mode, simulation, o, t, n)
 }
 
 /// The jobs of all tasks that arrive at `t`.
@@ -134,19 +142,19 @@ pub fn arrive<P: Policy, M: Tabled>(
     alloc: Global,
     sheet: &Sheet,
     mode: Mode,
-    machine: &mut Machine,
+    simulation: &mut Simulation,
     t: u64,
 ) -> Result<(), SimRefusal>
     requires time { t ≤ 100000 }
     requires served { Serves M.cuts sheet.now }
-    requires kept { IsKept P.meaning M.cuts sheet.now t machine.old }
-    requires stage { moment_of machine.old ≡ moment_after (world_by P.meaning M.cuts sheet.now mode) t }
-    ensures moment { OnOk result (moment_of machine.new ≡ arrive_below (world_by P.meaning M.cuts sheet.now mode) t (length sheet.now.tasks) (moment_after (world_by P.meaning M.cuts sheet.now mode) t)) }
-    ensures kept { OnOk result (IsKept P.meaning M.cuts sheet.now t machine.new) }
+    requires kept { IsKept P.meaning M.cuts sheet.now t simulation.old }
+    requires stage { moment_of simulation.old ≡ moment_after (world_by P.meaning M.cuts sheet.now mode) t }
+    ensures moment { OnOk result (moment_of simulation.new ≡ arrive_below (world_by P.meaning M.cuts sheet.now mode) t (length sheet.now.tasks) (moment_after (world_by P.meaning M.cuts sheet.now mode) t)) }
+    ensures kept { OnOk result (IsKept P.meaning M.cuts sheet.now t simulation.new) }
     ensures refusal { IfErr result (IsRefusal (arrive_below (world_by P.meaning M.cuts sheet.now mode) t (length sheet.now.tasks) (moment_after (world_by P.meaning M.cuts sheet.now mode) t)).run.jobs) }
 {
     for o in 0..sheet.len() {
-        arrive_of::<P, M>(alloc, sheet, mode, machine, o, t)?;
+        arrive_of::<P, M>(alloc, sheet, mode, simulation, o, t)?;
     }
     Ok(())
 }

@@ -3,9 +3,9 @@
 
 mod arrivals;
 mod loads;
-mod machine;
 mod refusal;
 mod running;
+mod simulation;
 mod ticks;
 mod words;
 

@@ -7,14 +7,14 @@ ghost use Rattle.supply.specs.Promises.{sbf_of};
 ghost use Rattle.run_text.specs.Text.{IsWithinLimits};
 ghost use Rattle.schedule_laws.specs.Compliance.{IsCompliant};
 ghost use Rattle.simulated_run.specs.declared.mode.Mode.TheVariants.{Dense};
-ghost use Rattle.simulated_run.specs.Laws.{IsDense};
+ghost use Rattle.simulated_run.specs.Laws.{IsDense, IsPrompt};
 ghost use Rattle.simulated_run.specs.SimulatedRun.{World, world_of, seed_of as seed_by, arrive_below, moment_after};
 ghost use Rattle.simulator.specs.Simulations.{IsSimulation, IsRefusal};
-ghost use Rattle.simulator.specs.Kept.{IsKept, world_by, moment_of};
+ghost use Rattle.simulator.specs.SimulationState.{IsKept, world_by, moment_of};
 
 use crate::arrivals::arrive;
-use crate::machine::Machine;
 use crate::refusal::SimRefusal;
+use crate::simulation::Simulation;
 use crate::ticks::add_tick;
 use lists::Items;
 use policy::Policy;
@@ -49,19 +49,19 @@ fn no_arrivals(alloc: Global, n: u32) -> Result<Vec<Vec<u64>>, AllocError>
     Ok(lists)
 }
 
-/// A machine before the first tick.
+/// A simulation before the first tick.
 fn start<P: Policy, M: Preemption>(
     alloc: Global,
     sheet: &Sheet,
     mode: Mode,
-) -> Result<Machine, AllocError>
-    ensures moment { IfOk result (λ machine. moment_of machine ≡ moment_after (world_by P.meaning M.cuts sheet.now mode) 0) }
+) -> Result<Simulation, AllocError>
+    ensures moment { IfOk result (λ simulation. moment_of simulation ≡ moment_after (world_by P.meaning M.cuts sheet.now mode) 0) }
     ensures kept { IfOk result (IsKept P.meaning M.cuts sheet.now 0) }
     ensures valid { IsValidSheet sheet.now }
 {
     let arrivals = no_arrivals(alloc, sheet.len())?;
     let counts = vec![in alloc; 0]?;
-    Ok(Machine {
+    Ok(Simulation {
         jobs: Vec::new(alloc),
         ticks: Vec::new(alloc),
         words: SplitMix64::seed_from_u64(seed_of(mode)),
@@ -79,25 +79,25 @@ fn run_tick<P: Policy, M: Tabled>(
     alloc: Global,
     sheet: &Sheet,
     mode: Mode,
-    machine: &mut Machine,
+    simulation: &mut Simulation,
     t: u64,
 ) -> Result<(), SimRefusal>
     requires time { t ≤ 100000 }
     requires served { Serves M.cuts sheet.now }
-    requires kept { IsKept P.meaning M.cuts sheet.now t machine.old }
-    requires stage { moment_of machine.old ≡ moment_after (world_by P.meaning M.cuts sheet.now mode) t }
-    ensures moment { OnOk result (moment_of machine.new ≡ moment_after (world_by P.meaning M.cuts sheet.now mode) (suc t)) }
-    ensures kept { OnOk result (IsKept P.meaning M.cuts sheet.now (suc t) machine.new) }
+    requires kept { IsKept P.meaning M.cuts sheet.now t simulation.old }
+    requires stage { moment_of simulation.old ≡ moment_after (world_by P.meaning M.cuts sheet.now mode) t }
+    ensures moment { OnOk result (moment_of simulation.new ≡ moment_after (world_by P.meaning M.cuts sheet.now mode) (suc t)) }
+    ensures kept { OnOk result (IsKept P.meaning M.cuts sheet.now (suc t) simulation.new) }
     ensures refusal { IfErr result (IsRefusal (arrive_below (world_by P.meaning M.cuts sheet.now mode) t (length sheet.now.tasks) (moment_after (world_by P.meaning M.cuts sheet.now mode) t)).run.jobs) }
 {
-    arrive::<P, M>(alloc, sheet, mode, machine, t)?;
-    add_tick::<P, M>(sheet, mode, machine, t)?;
+    arrive::<P, M>(alloc, sheet, mode, simulation, t)?;
+    add_tick::<P, M>(sheet, mode, simulation, t)?;
     Ok(())
 }
 
 /// The simulated run of a sheet's first `n` ticks, up to 100,000; `supply` is what the sheet states.
 ///
-/// The run complies with the sheet, and can be written; in mode dense as many jobs arrive at each
+/// The run complies with the sheet, and can be written; each job is released at its arrival. In mode dense as many jobs arrive at each
 /// tick as the curves still admit. It is refused by `Jobs` where it has more than
 /// 20,000 jobs, and by `Segments` where their segments are more than 1,000,000, as soon as a job
 /// passes a limit; a job that passes both limits passes `Jobs`.
@@ -113,6 +113,7 @@ pub fn simulate<P: Policy, M: Tabled, S: Supply>(
     requires stated { S.sbf supply.now ≡ sbf_of sheet.now.supply }
     ensures exact { IsSimulation (world_of P.meaning M.cuts (S.sbf supply.now) sheet.now mode) n result }
     ensures complies { IfOk result (IsCompliant P.meaning M.cuts (S.sbf supply.now) sheet.now) }
+    ensures prompt { IfOk result IsPrompt }
     ensures full { mode ≡ Dense → IfOk result (IsDense sheet.now n) }
     ensures within { IfOk result IsWithinLimits }
 {
@@ -120,11 +121,11 @@ pub fn simulate<P: Policy, M: Tabled, S: Supply>(
     supply.known();
     simulation_complies::<P, M, S>();
     dense_is_full::<P, M, S>();
-    let mut machine = start::<P, M>(alloc, sheet, mode)?;
+    let mut simulation = start::<P, M>(alloc, sheet, mode)?;
     for t in 0..n {
-        run_tick::<P, M>(alloc, sheet, mode, &mut machine, t)?;
+        run_tick::<P, M>(alloc, sheet, mode, &mut simulation, t)?;
     }
-    let Machine { jobs, ticks, .. } = machine;
+    let Simulation { jobs, ticks, .. } = simulation;
     Ok(Run {
         jobs: Items::new(jobs),
         ticks: Items::new(ticks),

@@ -7,9 +7,9 @@ ghost use Rattle.run_model.specs.declared.run.Tick.TheVariants.{Off, Runs as Run
 ghost use Rattle.run_model.specs.Runs.{is_on as is_on_by};
 ghost use Rattle.simulated_run.specs.SimulatedRun.{World, choice, with_tick, arrive_below, moment_after, add_tick as add_tick_by};
 ghost use Rattle.simulator.specs.Ranks.{rank_cmp};
-ghost use Rattle.simulator.specs.Kept.{IsKept, IsKeptAt, IsFirstEntry, MayBe, FloatsBy, CanRun, KeepsRest, HasCuts, left_at, world_by, run_of, moment_of};
+ghost use Rattle.simulator.specs.SimulationState.{IsKept, IsKeptAt, IsFirstEntry, MayBe, FloatsBy, CanRun, KeepsRest, HasCuts, left_at, world_by, run_of, moment_of};
 
-use crate::machine::{Machine, Rank, rank_of};
+use crate::simulation::{Rank, Simulation, rank_of};
 use crate::words::draw_off;
 use policy::Policy;
 use preemption::Tabled;
@@ -34,24 +34,24 @@ fn first_entry(queue: &BTreeMap<Rank, u32>) -> Option<u32>
 }
 
 /// What the processor does where it is supplied.
-fn choose(machine: &Machine) -> Tick
-    ensures { (w : World) (t : ℕ) → IsKept w.policy w.cuts w.sheet t machine.now → result ≡ choice w (run_of machine.now) t }
+fn choose(simulation: &Simulation) -> Tick
+    ensures { (w : World) (t : ℕ) → IsKept w.policy w.cuts w.sheet t simulation.now → result ≡ choice w (run_of simulation.now) t }
 {
-    if let Some(k) = machine.inside {
+    if let Some(k) = simulation.inside {
         return Tick::Runs(k);
     }
-    match first_entry(&machine.queue) {
+    match first_entry(&simulation.queue) {
         Some(k) => Tick::Runs(k),
         None => Tick::Idle,
     }
 }
 
 /// What the processor does, and nothing where it is off.
-fn pick(machine: &Machine, off: bool) -> Tick
-    ensures tick { (w : World) (t : ℕ) → IsKept w.policy w.cuts w.sheet t machine.now → result ≡ cond off Off (choice w (run_of machine.now) t) }
-    ensures may { (w : World) (t : ℕ) → HasCuts w → IsKept w.policy w.cuts w.sheet t machine.now → MayBe machine.now result }
+fn pick(simulation: &Simulation, off: bool) -> Tick
+    ensures tick { (w : World) (t : ℕ) → IsKept w.policy w.cuts w.sheet t simulation.now → result ≡ cond off Off (choice w (run_of simulation.now) t) }
+    ensures may { (w : World) (t : ℕ) → HasCuts w → IsKept w.policy w.cuts w.sheet t simulation.now → MayBe simulation.now result }
 {
-    if off { Tick::Off } else { choose(machine) }
+    if off { Tick::Off } else { choose(simulation) }
 }
 
 /// Takes a job out of the queue, if nothing of it is left.
@@ -87,37 +87,37 @@ fn segment_of(cut: bool, k: u32) -> Option<u32>
 }
 
 /// Runs job `k` for a tick.
-fn run_job<P: Policy, M: Tabled>(sheet: &Sheet, machine: &mut Machine, k: u32)
-    requires listed { k < length machine.old.jobs.items }
-    requires waits { 0 < left_at machine.old.left.items k }
-    requires chosen { CanRun machine.old.inside k }
-    requires time { length machine.old.ticks.items ≤ 100000 }
+fn run_job<P: Policy, M: Tabled>(sheet: &Sheet, simulation: &mut Simulation, k: u32)
+    requires listed { k < length simulation.old.jobs.items }
+    requires waits { 0 < left_at simulation.old.left.items k }
+    requires chosen { CanRun simulation.old.inside k }
+    requires time { length simulation.old.ticks.items ≤ 100000 }
     requires served { Serves M.cuts sheet.now }
-    requires kept { IsKept P.meaning M.cuts sheet.now (length machine.old.ticks.items) machine.old }
-    ensures rest { KeepsRest machine.old machine.new }
-    ensures kept { IsKeptAt P.meaning M.cuts sheet.now (suc (length machine.old.ticks.items)) (with_tick (run_of machine.old) (RunsJob k)) machine.new.left.items machine.new.queue machine.new.inside }
+    requires kept { IsKept P.meaning M.cuts sheet.now (length simulation.old.ticks.items) simulation.old }
+    ensures rest { KeepsRest simulation.old simulation.new }
+    ensures kept { IsKeptAt P.meaning M.cuts sheet.now (suc (length simulation.old.ticks.items)) (with_tick (run_of simulation.old) (RunsJob k)) simulation.new.left.items simulation.new.queue simulation.new.inside }
 {
     let _count = sheet.len();
-    let rest = machine.left[k as usize] - 1;
-    machine.left[k as usize] = rest;
-    let job = &machine.jobs[k as usize];
+    let rest = simulation.left[k as usize] - 1;
+    simulation.left[k as usize] = rest;
+    let job = &simulation.jobs[k as usize];
     let rank = rank_of::<P>(sheet, job, k);
     let cut = can_cut::<M>(sheet.task(job.task), job, job.cost - rest);
-    leave(&mut machine.queue, rank, rest);
-    machine.inside = segment_of(cut, k);
+    leave(&mut simulation.queue, rank, rest);
+    simulation.inside = segment_of(cut, k);
 }
 
 /// What a tick does to its job.
-fn advance<P: Policy, M: Tabled>(sheet: &Sheet, machine: &mut Machine, tick: Tick)
-    requires tick { MayBe machine.old tick }
-    requires time { length machine.old.ticks.items ≤ 100000 }
+fn advance<P: Policy, M: Tabled>(sheet: &Sheet, simulation: &mut Simulation, tick: Tick)
+    requires tick { MayBe simulation.old tick }
+    requires time { length simulation.old.ticks.items ≤ 100000 }
     requires served { Serves M.cuts sheet.now }
-    requires kept { IsKept P.meaning M.cuts sheet.now (length machine.old.ticks.items) machine.old }
-    ensures rest { KeepsRest machine.old machine.new }
-    ensures kept { IsKeptAt P.meaning M.cuts sheet.now (suc (length machine.old.ticks.items)) (with_tick (run_of machine.old) tick) machine.new.left.items machine.new.queue machine.new.inside }
+    requires kept { IsKept P.meaning M.cuts sheet.now (length simulation.old.ticks.items) simulation.old }
+    ensures rest { KeepsRest simulation.old simulation.new }
+    ensures kept { IsKeptAt P.meaning M.cuts sheet.now (suc (length simulation.old.ticks.items)) (with_tick (run_of simulation.old) tick) simulation.new.left.items simulation.new.queue simulation.new.inside }
 {
     if let Tick::Runs(k) = tick {
-        run_job::<P, M>(sheet, machine, k);
+        run_job::<P, M>(sheet, simulation, k);
     }
 }
 
@@ -135,23 +135,23 @@ fn count_on(tick: Tick) -> u64
 pub fn add_tick<P: Policy, M: Tabled>(
     sheet: &Sheet,
     mode: Mode,
-    machine: &mut Machine,
+    simulation: &mut Simulation,
     t: u64,
 ) -> Result<(), AllocError>
     requires time { t ≤ 100000 }
     requires served { Serves M.cuts sheet.now }
-    requires kept { IsKept P.meaning M.cuts sheet.now t machine.old }
-    requires stage { moment_of machine.old ≡ arrive_below (world_by P.meaning M.cuts sheet.now mode) t (length sheet.now.tasks) (moment_after (world_by P.meaning M.cuts sheet.now mode) t) }
-    ensures moment { OnOk result (moment_of machine.new ≡ add_tick_by (world_by P.meaning M.cuts sheet.now mode) t (moment_of machine.old)) }
-    ensures kept { OnOk result (IsKept P.meaning M.cuts sheet.now (suc t) machine.new) }
+    requires kept { IsKept P.meaning M.cuts sheet.now t simulation.old }
+    requires stage { moment_of simulation.old ≡ arrive_below (world_by P.meaning M.cuts sheet.now mode) t (length sheet.now.tasks) (moment_after (world_by P.meaning M.cuts sheet.now mode) t) }
+    ensures moment { OnOk result (moment_of simulation.new ≡ add_tick_by (world_by P.meaning M.cuts sheet.now mode) t (moment_of simulation.old)) }
+    ensures kept { OnOk result (IsKept P.meaning M.cuts sheet.now (suc t) simulation.new) }
 {
     let _count = sheet.len();
-    let may = off_allowed(sheet, &machine.counts, t);
-    let off = draw_off(mode, may, &mut machine.words);
-    let tick = pick(machine, off);
-    advance::<P, M>(sheet, machine, tick);
-    let count = machine.counts[t as usize] + count_on(tick);
-    machine.counts.push(count)?;
-    machine.ticks.push(tick)?;
+    let may = off_allowed(sheet, &simulation.counts, t);
+    let off = draw_off(mode, may, &mut simulation.words);
+    let tick = pick(simulation, off);
+    advance::<P, M>(sheet, simulation, tick);
+    let count = simulation.counts[t as usize] + count_on(tick);
+    simulation.counts.push(count)?;
+    simulation.ticks.push(tick)?;
     Ok(())
 }

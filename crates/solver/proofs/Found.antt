@@ -1,23 +1,28 @@
 -- The function gives an answer.
-use Rattle.std.proofs.Common.{◌≡◌, ℕ, zero, suc, ◌+◌, ◌-◌, ◌<◌, ◌≤◌, Bool, Option, Some, None, List, [], ◌∷◌, map, length, Result, Ok, Err, refl, ap, sym, add-one, arith, inl, inr, nat_le}
+use Rattle.std.proofs.Common.{◌≡◌, ℕ, zero, suc, ◌+◌, ◌-◌, ◌<◌, ◌≤◌, Bool, Option, Some, None, List, [], ◌∷◌, map, length, Result, Ok, Err, refl, ap, add-one, arith, inl, inr, nat_le}
 use Rattle.std.specs.List.{AllByRecursion}
 use Rattle.std.proofs.lemmas.Bool.{cases_Bool, leb-true, leb-false}
+use Rattle.std.proofs.lemmas.List.{length-map}
 use Rattle.lists.specs.Searches.{IsLeast, IsLeastTo}
 use Rattle.task_sheet.specs.SheetParts.{SheetParts}
+use Rattle.task_sheet.specs.Sheets.{task_at}
 use Rattle.policy.specs.PolicyMeaning.{PolicyMeaning}
 use Rattle.preemption.specs.CutMeaning.{CutMeaning}
 use Rattle.demand.specs.Meeting.{IsWindow, MeetsEnd}
 use Rattle.search_space.specs.Points.{is_point}
 use Rattle.certificate.specs.declared.cert.Entry.{Entry}
+use Rattle.certificate.specs.declared.cert.Point.{Point}
+use Rattle.certificate.specs.Text.{point_of}
 use Rattle.solver.specs.declared.analysis.AnalyseRefusal.{AnalyseRefusal}
 use Rattle.solver.specs.declared.analysis.AnalyseRefusal.TheVariants.{NoBound, Points, Memory}
 use Rattle.solver.specs.Laws.{Laws}
 use Rattle.solver.specs.Points.{passing, points_below}
 use Rattle.solver.specs.Best.{IsBestEntry, MeetsEach, points_to, HasNoBound, HasManyPoints}
-use Rattle.solver.specs.Outcome.{least_to, or_zero, meets_end, best_points, best_of_window, with_entry, next_entries, first_entries, as_cert, best_of}
+use Rattle.solver.specs.Outcome.{least_to, or_zero, best_points, best_of_window, bounded_entry, with_entry, next_entries, first_entries, as_cert, best_of}
+use Rattle.conditions.specs.Conditions.{meets_end}
 use Rattle.solver.specs.Answer.{IsAnswer}
 use Rattle.solver.proofs.Unique.{found_least, end_found, bound_found, window_found}
-use Rattle.solver.proofs.Least.{each_bound, window_ends, window_serves}
+use Rattle.solver.proofs.Least.{window_ends, window_each}
 use Rattle.solver.proofs.Listed.{EntriesSoFar, entries_none, entries_more, have_entries, all_entries}
 
 passing_below : (test : ℕ → Bool) (top n from : ℕ) → from + n ≤ top → AllByRecursion (λ a. a < top) (passing test from n)
@@ -33,11 +38,11 @@ points_lie_below p sheet i window = passing_below (is_point p sheet i) window wi
 
 -- offsets with their ends: the offsets are kept
 module _ (end : ℕ → ℕ) where
-  offsets_stay : (offsets : List ℕ) → map (λ (q : ℕ × ℕ). q.0) (map (λ a. (a, end a)) offsets) ≡ offsets
+  offsets_stay : (offsets : List ℕ) → map (λ (q : Point). q.offset) (map (λ a. point_of a (end a)) offsets) ≡ offsets
   offsets_stay [] = refl
   offsets_stay (a ∷ offsets) = ap (λ rest. a ∷ rest) (offsets_stay offsets)
 
-  each_offset : (P : ℕ → ℕ → Type 0) (limit : ℕ) → ((a : ℕ) → a < limit → P a (end a)) → (offsets : List ℕ) → AllByRecursion (λ a. a < limit) offsets → AllByRecursion (λ (q : ℕ × ℕ). P q.0 q.1) (map (λ a. (a, end a)) offsets)
+  each_offset : (P : ℕ → ℕ → Type 0) (limit : ℕ) → ((a : ℕ) → a < limit → P a (end a)) → (offsets : List ℕ) → AllByRecursion (λ a. a < limit) offsets → AllByRecursion (λ (q : Point). P q.offset q.end) (map (λ a. point_of a (end a)) offsets)
   each_offset P limit f [] below = tt
   each_offset P limit f (a ∷ offsets) below = (f a below.0, each_offset P limit f offsets below.1)
 
@@ -47,18 +52,19 @@ module _ (p : PolicyMeaning) (m : CutMeaning) (sbf : ℕ → ℕ) (sheet : Sheet
   unfolding best_of_window best_points
   best_entry_found i window in_range least =
       let up_to : window ≤ window = omega arith in
+      let limit = window + (task_at sheet i).jitter in
       let end = λ (a : ℕ). or_zero (least_to (meets_end p m sbf sheet i a) window) in
       let lie = points_lie_below p sheet i window in
-      let points = map (λ a. (a, end a)) (points_below p sheet i window) in
-      let ends : AllByRecursion (λ q. IsLeast (MeetsEnd p m sbf sheet i q.0) q.1) points =
+      let points = map (λ a. point_of a (end a)) (points_below p sheet i window) in
+      let ends : AllByRecursion (λ q. IsLeast (MeetsEnd p m sbf sheet i q.offset) q.end) points =
       each_offset end (λ a x. IsLeast (MeetsEnd p m sbf sheet i a) x) window (λ a lt. found_least (MeetsEnd p m sbf sheet i a) window window _ (end_found p m sbf sheet i a window) up_to (window_ends p m sbf sheet laws i in_range window a least.holds lt)) (points_below p sheet i window) lie in
-      let below : AllByRecursion (λ q. q.0 < window) points = each_offset end (λ a x. a < window) window (λ a lt. lt) (points_below p sheet i window) lie in
-      let each : MeetsEach p m sbf sheet i points window = each_bound p m sbf sheet laws i in_range window window points (λ a lt. window_serves p m sbf sheet laws i in_range window a least.holds lt) ends below in
+      let below : AllByRecursion (λ q. q.offset < window) points = each_offset end (λ a x. a < window) window (λ a lt. lt) (points_below p sheet i window) lie in
+      let each : MeetsEach p m sbf sheet i points limit = window_each p m sbf sheet laws i in_range window points least.holds ends below in
       record {
         window = least;
         offsets = offsets_stay end (points_below p sheet i window);
         ends = ends;
-        bound = found_least (MeetsEach p m sbf sheet i points) window window _ (bound_found p m sbf sheet i points window) up_to each;
+        bound = found_least (MeetsEach p m sbf sheet i points) limit limit _ (bound_found p m sbf sheet i points limit) (omega arith) each;
       }
 
   its_window : (i window : ℕ) → (best_of_window p m sbf sheet i window).window ≡ window
@@ -69,21 +75,37 @@ module _ (p : PolicyMeaning) (m : CutMeaning) (sbf : ℕ → ℕ) (sheet : Sheet
     -- the entries of the first n tasks, or why there is none for one of them
     abbrev IsOutcome : ℕ → Result (List Entry) AnalyseRefusal → Type 0
     IsOutcome n (Ok entries) = (room : ℕ) × EntriesSoFar p m sbf sheet horizon n room entries
-    IsOutcome n (Err (NoBound i)) = HasNoBound p m sbf sheet horizon i
+    IsOutcome n (Err (NoBound i part)) = HasNoBound p m sbf sheet horizon i part
     IsOutcome n (Err (Points i)) = HasManyPoints p m sbf sheet horizon i
     IsOutcome n (Err Memory) = ⊥
 
+    bounded_next : (i room : ℕ) (entries : List Entry) (e : Entry) → i < length sheet.tasks → EntriesSoFar p m sbf sheet horizon i room entries → IsBestEntry p m sbf sheet i e → e.window ≤ horizon →
+        points_to entries i + length (points_below p sheet i e.window) ≤ 1000000 → IsOutcome (suc i) (bounded_entry horizon i entries e)
+    bounded_next i room entries e l so_far best within few = elim (cases_Bool (nat_le e.bound horizon)) [
+      | inl t ↦ rw t (
+        room - length (points_below p sheet i e.window),
+        rw (add-one i) at (entries_more p m sbf sheet horizon i room (length (points_below p sheet i e.window)) entries e so_far (record { window = within; bound = leb-true _ _ t; best = best }) refl (omega (arith, so_far.room_left))),
+      )
+      | inr f ↦ rw f (record {
+        entries = entries;
+        before = have_entries p m sbf sheet horizon i room entries l so_far;
+        entry = e;
+        best = best;
+        within = within;
+        few = omega (arith, few, ap length best.offsets, length-map e.points (λ (q : Point). q.offset));
+        late = leb-false _ _ f;
+      })
+    ]
+
     entry_next : (i room : ℕ) (entries : List Entry) → i < length sheet.tasks → EntriesSoFar p m sbf sheet horizon i room entries → (found : Option ℕ) → IsLeastTo (IsWindow p m sbf sheet i) horizon found →
-        IsOutcome (suc i) (with_entry p m sbf sheet i entries found)
+        IsOutcome (suc i) (with_entry p m sbf sheet horizon i entries found)
     entry_next i room entries l so_far None none = record { before = (entries, have_entries p m sbf sheet horizon i room entries l so_far); none = none }
     entry_next i room entries l so_far (Some window) found = elim (cases_Bool (nat_le (points_to entries i + length (points_below p sheet i window)) 1000000)) [
       | inl t ↦
-          let few : points_to entries i + length (points_below p sheet i window) ≤ 1000000 = leb-true _ _ t in
           let same = its_window i window in
-          rw t (
-            room - length (points_below p sheet i window),
-            rw (add-one i) at (entries_more p m sbf sheet horizon i room (length (points_below p sheet i window)) entries (best_of_window p m sbf sheet i window) so_far (omega (arith, same, found.0)) (best_entry_found i window l found.1) (ap (λ (w : ℕ). length (points_below p sheet i w)) (sym same)) (omega (arith, so_far.room_left))),
-          )
+          rw t
+          (bounded_next i room entries (best_of_window p m sbf sheet i window) l so_far (best_entry_found i window l found.1) (omega (arith, same, found.0))
+          (omega (arith, leb-true _ _ t, ap (λ (w : ℕ). length (points_below p sheet i w)) same)))
       | inr f ↦ rw f (record {
         entries = entries;
         before = have_entries p m sbf sheet horizon i room entries l so_far;
@@ -96,7 +118,7 @@ module _ (p : PolicyMeaning) (m : CutMeaning) (sbf : ℕ → ℕ) (sheet : Sheet
 
     outcome_next : (i : ℕ) → i < length sheet.tasks → (r : Result (List Entry) AnalyseRefusal) → IsOutcome i r → IsOutcome (suc i) (next_entries p m sbf sheet horizon i r)
     outcome_next i l (Ok entries) so_far = entry_next i so_far.0 entries l so_far.1 _ (window_found p m sbf sheet i horizon)
-    outcome_next i l (Err (NoBound k)) h = h
+    outcome_next i l (Err (NoBound k part)) h = h
     outcome_next i l (Err (Points k)) h = h
     outcome_next i l (Err Memory) h = h
 
@@ -107,7 +129,7 @@ module _ (p : PolicyMeaning) (m : CutMeaning) (sbf : ℕ → ℕ) (sheet : Sheet
 
     answer_of : (r : Result (List Entry) AnalyseRefusal) → IsOutcome (length sheet.tasks) r → IsAnswer p m sbf sheet horizon (as_cert r)
     answer_of (Ok entries) h = all_entries p m sbf sheet horizon (length sheet.tasks) h.0 entries refl h.1
-    answer_of (Err (NoBound i)) h = h
+    answer_of (Err (NoBound i part)) h = h
     answer_of (Err (Points i)) h = h
     answer_of (Err Memory) h = h
 

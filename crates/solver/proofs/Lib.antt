@@ -8,3 +8,4 @@ pub mod Listed
 pub mod Found
 pub mod Single
 pub mod Theorems
+pub mod Worked

@@ -7,8 +7,9 @@ use Rattle.task_sheet.specs.SheetParts.{SheetParts}
 use Rattle.policy.specs.PolicyMeaning.{PolicyMeaning}
 use Rattle.preemption.specs.CutMeaning.{CutMeaning}
 use Rattle.certificate.specs.declared.cert.Entry.{Entry}
+use Rattle.certificate.specs.declared.cert.Point.{Point}
 use Rattle.solver.specs.Points.{points_below}
-use Rattle.solver.specs.Best.{IsBestEntry, nth_entry, AreBest, points_to, HaveEntries, IsBest}
+use Rattle.solver.specs.Best.{IsBestUpTo, nth_entry, AreBest, points_to, HaveEntries, IsBest}
 
 -- the entries of the first i tasks, and how many points may follow
 pub record EntriesSoFar (p : PolicyMeaning) (m : CutMeaning) (sbf : ℕ → ℕ) (sheet : SheetParts) (horizon i room : ℕ) (entries : List Entry) : Type 0 where
@@ -41,19 +42,19 @@ module _ (p : PolicyMeaning) (m : CutMeaning) (sbf : ℕ → ℕ) (sheet : Sheet
   pub entries_none : EntriesSoFar p m sbf sheet horizon 0 1000000 []
   entries_none = record { count = refl; best = λ i l. absurd (omega arith); room_left = refl }
 
-  pub entries_more : (i room count : ℕ) (entries : List Entry) (e : Entry) → EntriesSoFar p m sbf sheet horizon i room entries → e.window ≤ horizon → IsBestEntry p m sbf sheet i e →
+  pub entries_more : (i room count : ℕ) (entries : List Entry) (e : Entry) → EntriesSoFar p m sbf sheet horizon i room entries → IsBestUpTo p m sbf sheet horizon i e →
       count ≡ length (points_below p sheet i e.window) → count ≤ room → EntriesSoFar p m sbf sheet horizon (i + 1) (room - count) (entries ++ e ∷ [])
-  entries_more i room count entries e so_far within best counted le =
-      let own : length e.points ≡ count = omega (arith, counted, ap length best.offsets, length-map e.points (λ (q : ℕ × ℕ). q.0)) in
+  entries_more i room count entries e so_far best counted le =
+      let own : length e.points ≡ count = omega (arith, counted, ap length best.best.offsets, length-map e.points (λ (q : Point). q.offset)) in
       record {
         count = omega (arith, length-append entries (e ∷ []), so_far.count);
         best = λ k l. elim (cases_lt k (length entries)) [
-          | inl c ↦ subst (λ x. (x.window ≤ horizon) × IsBestEntry p m sbf sheet k x) (sym (entry_before entries e k c)) (so_far.best k c)
+          | inl c ↦ subst (λ x. IsBestUpTo p m sbf sheet horizon k x) (sym (entry_before entries e k c)) (so_far.best k c)
           | inr c ↦
               let here : length entries ≡ k = omega (arith, length-append entries (e ∷ [])) in
               let now : e ≡ nth_entry (entries ++ e ∷ []) k = sym (entry_last entries e) ∙ ap (nth_entry (entries ++ e ∷ [])) here in
               let task : i ≡ k = omega (arith, so_far.count) in
-              subst (λ x. (x.window ≤ horizon) × IsBestEntry p m sbf sheet k x) now (within, subst (λ n. IsBestEntry p m sbf sheet n e) task best)
+              subst (λ x. IsBestUpTo p m sbf sheet horizon k x) now (subst (λ n. IsBestUpTo p m sbf sheet horizon n e) task best)
         ];
         room_left =
             rw (add-one i)

@@ -4,9 +4,12 @@ use Rattle.std.proofs.lemmas.Bool.{false_from_ne_true}
 use Rattle.std.proofs.lemmas.List.{map-append, length-map}
 use Rattle.lists.specs.Searches.{IsLeast, IsFirstBelow}
 use Rattle.task_sheet.specs.SheetParts.{SheetParts}
+use Rattle.task_sheet.specs.Sheets.{task_at}
 use Rattle.policy.specs.PolicyMeaning.{PolicyMeaning}
 use Rattle.preemption.specs.CutMeaning.{CutMeaning}
-use Rattle.demand.specs.Meeting.{IsWindow, MeetsEnd, MeetsBound}
+use Rattle.certificate.specs.declared.cert.Point.{Point}
+use Rattle.certificate.specs.Text.{point_of}
+use Rattle.demand.specs.Meeting.{IsWindow, MeetsEnd, MeetsBound, BoundMeets}
 use Rattle.search_space.specs.Points.{is_point, IsPointAfter}
 use Rattle.solver.specs.Laws.{Laws}
 use Rattle.solver.specs.Points.{passing, points_below}
@@ -82,41 +85,46 @@ each_weaker P Q [] f all = all
 each_weaker P Q (x ∷ xs) f all = (f x all.0, each_weaker P Q xs f all.1)
 
 -- the points before a are listed with their least ends, and the bound is the least for them
-pub record SoFar (p : PolicyMeaning) (m : CutMeaning) (sbf : ℕ → ℕ) (sheet : SheetParts) (i window a bound : ℕ) (points : List (ℕ × ℕ)) : Type 0 where
+pub record SoFar (p : PolicyMeaning) (m : CutMeaning) (sbf : ℕ → ℕ) (sheet : SheetParts) (i window a bound : ℕ) (points : List Point) : Type 0 where
   pub lies : a < window
-  pub offsets : map (λ q. q.0) points ++ points_from p sheet i window a ≡ points_below p sheet i window
-  pub ends : AllByRecursion (λ q. IsLeast (MeetsEnd p m sbf sheet i q.0) q.1) points
+  pub offsets : map (λ q. q.offset) points ++ points_from p sheet i window a ≡ points_below p sheet i window
+  pub ends : AllByRecursion (λ q. IsLeast (MeetsEnd p m sbf sheet i q.offset) q.end) points
   pub least : IsLeast (MeetsEach p m sbf sheet i points) bound
 
 module _ (p : PolicyMeaning) (m : CutMeaning) (sbf : ℕ → ℕ) (sheet : SheetParts) (laws : Laws p m sbf sheet) (i : ℕ) where
   bound_grow : (a x low high : ℕ) → low ≤ high → MeetsBound p m sbf sheet i a x low → MeetsBound p m sbf sheet i a x high
-  bound_grow a x low high le meets = record { end = omega (arith, meets.end); enough = omega (arith, meets.enough, grows sbf laws (a + low) (a + high) (omega arith)) }
+  bound_grow a x low high le meets =
+      let jitter = (task_at sheet i).jitter in
+      record { end = omega (arith, meets.end); enough = omega (arith, meets.enough, grows sbf laws (a + low - jitter) (a + high - jitter) (omega arith)) }
 
   -- the greatest of two least bounds is the least for both
-  bound_more : (points : List (ℕ × ℕ)) (a x bound least : ℕ) → IsLeast (MeetsEach p m sbf sheet i points) bound → IsLeast (MeetsBound p m sbf sheet i a x) least → IsLeast (MeetsEach p m sbf sheet i (points ++ (a, x) ∷ [])) (max least bound)
+  bound_more : (points : List Point) (a x bound least : ℕ) → IsLeast (MeetsEach p m sbf sheet i points) bound → IsLeast (BoundMeets p m sbf sheet i a x) least → IsLeast (MeetsEach p m sbf sheet i (points ++ point_of a x ∷ [])) (max least bound)
   bound_more points a x bound least so_far here = record {
-    holds = each_push _ points (a, x) (each_weaker _ _ points (λ q meets. bound_grow q.0 q.1 bound (max least bound) (omega arith) meets) so_far.holds) (bound_grow a x least (max least bound) (omega arith) here.holds);
+    holds = record {
+      covers = omega (arith, here.holds.covers);
+      each = each_push _ points (point_of a x) (each_weaker _ _ points (λ q meets. bound_grow q.offset q.end bound (max least bound) (omega arith) meets) so_far.holds.each) (bound_grow a x least (max least bound) (omega arith) here.holds.within);
+    };
     least = λ k h.
-        let parts = each_split _ points (a, x) h in
-        omega (arith, so_far.least k parts.0, here.least k parts.1);
+        let parts = each_split _ points (point_of a x) h.each in
+        omega (arith, so_far.least k (record { covers = h.covers; each = parts.0 }), here.least k (record { covers = h.covers; within = parts.1 }));
   }
 
-  pub so_far_first : (window : ℕ) → 1 ≤ window → SoFar p m sbf sheet i window 0 0 []
-  so_far_first window one = record { lies = one; offsets = from_first p sheet i window one; ends = tt; least = record { holds = tt; least = λ k h. omega arith } }
+  pub so_far_first : (window bound : ℕ) → 1 ≤ window → bound ≡ (task_at sheet i).jitter → SoFar p m sbf sheet i window 0 bound []
+  so_far_first window bound one e = record { lies = one; offsets = from_first p sheet i window one; ends = tt; least = record { holds = record { covers = omega (arith, e); each = tt }; least = λ k h. omega (arith, e, h.covers) } }
 
-  module _ (window a bound : ℕ) (points : List (ℕ × ℕ)) (so_far : SoFar p m sbf sheet i window a bound points) (x least : ℕ) (end : IsLeast (MeetsEnd p m sbf sheet i a) x) (here : IsLeast (MeetsBound p m sbf sheet i a x) least) where
-    offsets_more : (next : ℕ) → IsNextPoint p sheet i a window (Some next) → map (λ q. q.0) (points ++ (a, x) ∷ []) ++ points_from p sheet i window next ≡ points_below p sheet i window
+  module _ (window a bound : ℕ) (points : List Point) (so_far : SoFar p m sbf sheet i window a bound points) (x least : ℕ) (end : IsLeast (MeetsEnd p m sbf sheet i a) x) (here : IsLeast (BoundMeets p m sbf sheet i a x) least) where
+    offsets_more : (next : ℕ) → IsNextPoint p sheet i a window (Some next) → map (λ q. q.offset) (points ++ point_of a x ∷ []) ++ points_from p sheet i window next ≡ points_below p sheet i window
     offsets_more next n =
-        rw (map-append (λ (q : ℕ × ℕ). q.0) points ((a, x) ∷ []), append_assoc (map (λ (q : ℕ × ℕ). q.0) points) (a ∷ []) (points_from p sheet i window next)) (rw (from_next p sheet i window a next n) at so_far.offsets)
+        rw (map-append (λ (q : Point). q.offset) points (point_of a x ∷ []), append_assoc (map (λ (q : Point). q.offset) points) (a ∷ []) (points_from p sheet i window next)) (rw (from_next p sheet i window a next n) at so_far.offsets)
 
-    offsets_last : IsNextPoint p sheet i a window None → map (λ q. q.0) (points ++ (a, x) ∷ []) ≡ points_below p sheet i window
-    offsets_last n = rw (map-append (λ (q : ℕ × ℕ). q.0) points ((a, x) ∷ [])) (rw (from_last p sheet i window a n) at so_far.offsets)
+    offsets_last : IsNextPoint p sheet i a window None → map (λ q. q.offset) (points ++ point_of a x ∷ []) ≡ points_below p sheet i window
+    offsets_last n = rw (map-append (λ (q : Point). q.offset) points (point_of a x ∷ [])) (rw (from_last p sheet i window a n) at so_far.offsets)
 
-    pub so_far_more : (next : ℕ) → IsNextPoint p sheet i a window (Some next) → SoFar p m sbf sheet i window next (max least bound) (points ++ (a, x) ∷ [])
-    so_far_more next n = record { lies = n.0; offsets = offsets_more next n; ends = each_push _ points (a, x) so_far.ends end; least = bound_more points a x bound least so_far.least here }
+    pub so_far_more : (next : ℕ) → IsNextPoint p sheet i a window (Some next) → SoFar p m sbf sheet i window next (max least bound) (points ++ point_of a x ∷ [])
+    so_far_more next n = record { lies = n.0; offsets = offsets_more next n; ends = each_push _ points (point_of a x) so_far.ends end; least = bound_more points a x bound least so_far.least here }
 
-    pub so_far_last : IsLeast (IsWindow p m sbf sheet i) window → IsNextPoint p sheet i a window None → IsBestEntry p m sbf sheet i (record { window = window; bound = max least bound; points = points ++ (a, x) ∷ [] })
-    so_far_last w n = record { window = w; offsets = offsets_last n; ends = each_push _ points (a, x) so_far.ends end; bound = bound_more points a x bound least so_far.least here }
+    pub so_far_last : IsLeast (IsWindow p m sbf sheet i) window → IsNextPoint p sheet i a window None → IsBestEntry p m sbf sheet i (record { window = window; bound = max least bound; points = points ++ point_of a x ∷ [] })
+    so_far_last w n = record { window = w; offsets = offsets_last n; ends = each_push _ points (point_of a x) so_far.ends end; bound = bound_more points a x bound least so_far.least here }
 
-pub points_some : (p : PolicyMeaning) (sheet : SheetParts) (i window : ℕ) (points : List (ℕ × ℕ)) → 1 ≤ window → map (λ q. q.0) points ≡ points_below p sheet i window → 1 ≤ length points
-points_some p sheet i window points one e = omega (arith, ap length e, length-map points (λ (q : ℕ × ℕ). q.0), ap length (from_first p sheet i window one), from_some p sheet i window 0)
+pub points_some : (p : PolicyMeaning) (sheet : SheetParts) (i window : ℕ) (points : List Point) → 1 ≤ window → map (λ q. q.offset) points ≡ points_below p sheet i window → 1 ≤ length points
+points_some p sheet i window points one e = omega (arith, ap length e, length-map points (λ (q : Point). q.offset), ap length (from_first p sheet i window one), from_some p sheet i window 0)

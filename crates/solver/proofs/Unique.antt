@@ -1,18 +1,21 @@
 -- A search finds the one least number.
-use Rattle.std.proofs.Common.{◌≡◌, ℕ, zero, suc, ◌+◌, ◌<◌, ◌≤◌, Bool, true, cond, Option, Some, None, List, [], ◌∷◌, ◌++◌, length, Ok, refl, ap, ◌∙◌, arith, inl, inr, nat_le}
+use Rattle.std.specs.List.{AllByRecursion}
+use Rattle.std.proofs.Common.{◌≡◌, ℕ, zero, suc, ◌+◌, ◌<◌, ◌≤◌, Bool, true, cond, Option, Some, None, List, [], ◌∷◌, ◌++◌, length, Ok, refl, ap, ◌∙◌, arith, inl, inr}
 use Rattle.std.proofs.lemmas.Bool.{both_ways, cases_lt, cases_Bool, and_parts, and_from, leb-true, le-leb}
 use Rattle.lists.specs.Firsts.{first_of}
 use Rattle.lists.specs.Searches.{IsLeast, IsLeastTo}
 use Rattle.task_sheet.specs.SheetParts.{SheetParts}
+use Rattle.task_sheet.specs.Sheets.{task_at}
 use Rattle.policy.specs.PolicyMeaning.{PolicyMeaning}
 use Rattle.preemption.specs.CutMeaning.{CutMeaning}
-use Rattle.demand.specs.Demand.{window_need_of}
 use Rattle.certificate.specs.declared.cert.Entry.{Entry}
-use Rattle.demand.specs.Meeting.{IsWindow, MeetsEnd}
-use Rattle.conditions.specs.Conditions.{is_window}
+use Rattle.certificate.specs.declared.cert.Point.{Point}
+use Rattle.demand.specs.Meeting.{IsWindow, MeetsEnd, MeetsBound}
+use Rattle.conditions.proofs.MeetFacts.{window_means, window_true, end_means, end_true, bound_means}
+use Rattle.conditions.specs.Conditions.{covers_jitter, is_window, ends_within, meets_end, rest_within}
 use Rattle.solver.specs.Points.{points_below}
 use Rattle.solver.specs.Best.{MeetsEach, points_to}
-use Rattle.solver.specs.Outcome.{least_to, or_zero, meets_end, meets_bound, best_of_window, first_entries}
+use Rattle.solver.specs.Outcome.{least_to, or_zero, meets_each, meets_bound, best_points, best_of_window, first_entries}
 use Rattle.solver.proofs.Jumps.{least_here}
 
 -- a test that decides a fact finds its least number
@@ -51,43 +54,51 @@ pub found_least : (P : ℕ → Type 0) (limit n : ℕ) (found : Option ℕ) → 
 found_least P limit n (Some k) least le h = least.1
 found_least P limit n None none le h = absurd (none n le h)
 
+-- what is found lies within the limit
+found_within : (P : ℕ → Type 0) (limit : ℕ) (found : Option ℕ) → IsLeastTo P limit found → or_zero found ≤ limit
+found_within P limit None none = omega arith
+found_within P limit (Some n) least = least.0
+
 module _ (p : PolicyMeaning) (m : CutMeaning) (sbf : ℕ → ℕ) (sheet : SheetParts) (i : ℕ) where
-  end_means : (a x : ℕ) → meets_end p m sbf sheet i a x ≡ true → MeetsEnd p m sbf sheet i a x
-  end_means a x h = record { enough = leb-true _ _ h }
-
-  end_from : (a x : ℕ) → MeetsEnd p m sbf sheet i a x → meets_end p m sbf sheet i a x ≡ true
-  end_from a x meets = le-leb _ _ meets.enough
-
   pub end_found : (a limit : ℕ) → IsLeastTo (MeetsEnd p m sbf sheet i a) limit (least_to (meets_end p m sbf sheet i a) limit)
-  end_found a limit = least_to_is (MeetsEnd p m sbf sheet i a) (meets_end p m sbf sheet i a) (end_means a) (end_from a) limit
+  end_found a limit = least_to_is (MeetsEnd p m sbf sheet i a) (meets_end p m sbf sheet i a) (end_means p m sbf sheet i a) (end_true p m sbf sheet i a) limit
 
-  bound_means : (qs : List (ℕ × ℕ)) (bound : ℕ) → meets_bound p m sbf sheet i qs bound ≡ true → MeetsEach p m sbf sheet i qs bound
-  bound_means [] bound h = tt
-  bound_means (q ∷ qs) bound h =
-      let parts = and_parts _ (meets_bound p m sbf sheet i qs bound) h in
-      let own = and_parts _ _ parts.0 in
-      (record { end = leb-true _ _ own.0; enough = leb-true _ _ own.1 }, bound_means qs bound parts.1)
+  each_means : (qs : List Point) (bound : ℕ) → meets_each p m sbf sheet i qs bound ≡ true → AllByRecursion (λ q. MeetsBound p m sbf sheet i q.offset q.end bound) qs
+  each_means [] bound h = tt
+  each_means (q ∷ qs) bound h =
+      let parts = and_parts _ (meets_each p m sbf sheet i qs bound) h in
+      let own = and_parts (ends_within sheet i q.offset q.end bound) (rest_within p m sbf sheet i q.offset q.end bound) parts.0 in
+      (bound_means p m sbf sheet i q.offset q.end bound own.0 own.1, each_means qs bound parts.1)
 
-  bound_from : (qs : List (ℕ × ℕ)) (bound : ℕ) → MeetsEach p m sbf sheet i qs bound → meets_bound p m sbf sheet i qs bound ≡ true
-  bound_from [] bound meets = refl
-  bound_from (q ∷ qs) bound meets = and_from _ _ (and_from _ _ (le-leb _ _ meets.0.end) (le-leb _ _ meets.0.enough)) (bound_from qs bound meets.1)
+  each_true : (qs : List Point) (bound : ℕ) → AllByRecursion (λ q. MeetsBound p m sbf sheet i q.offset q.end bound) qs → meets_each p m sbf sheet i qs bound ≡ true
+  each_true [] bound meets = refl
+  each_true (q ∷ qs) bound meets = and_from _ _ (and_from _ _ (le-leb _ _ meets.0.end) (le-leb _ _ meets.0.enough)) (each_true qs bound meets.1)
 
-  pub bound_found : (qs : List (ℕ × ℕ)) (limit : ℕ) → IsLeastTo (MeetsEach p m sbf sheet i qs) limit (least_to (meets_bound p m sbf sheet i qs) limit)
-  bound_found qs limit = least_to_is (MeetsEach p m sbf sheet i qs) (meets_bound p m sbf sheet i qs) (bound_means qs) (bound_from qs) limit
+  all_mean : (qs : List Point) (bound : ℕ) → meets_bound p m sbf sheet i qs bound ≡ true → MeetsEach p m sbf sheet i qs bound
+  all_mean qs bound h =
+      let parts = and_parts (covers_jitter sheet i bound) (meets_each p m sbf sheet i qs bound) h in
+      record { covers = leb-true _ _ parts.0; each = each_means qs bound parts.1 }
 
-  window_means : (l : ℕ) → is_window p m sbf sheet i l ≡ true → IsWindow p m sbf sheet i l
-  window_means l h =
-      let parts = and_parts (nat_le 1 l) (nat_le (window_need_of p m sheet i l) (sbf l)) h in
-      record { positive = leb-true _ _ parts.0; enough = leb-true _ _ parts.1 }
+  all_true : (qs : List Point) (bound : ℕ) → MeetsEach p m sbf sheet i qs bound → meets_bound p m sbf sheet i qs bound ≡ true
+  all_true qs bound meets = and_from (covers_jitter sheet i bound) (meets_each p m sbf sheet i qs bound) (le-leb _ _ meets.covers) (each_true qs bound meets.each)
 
-  window_from : (l : ℕ) → IsWindow p m sbf sheet i l → is_window p m sbf sheet i l ≡ true
-  window_from l meets = and_from (nat_le 1 l) (nat_le (window_need_of p m sheet i l) (sbf l)) (le-leb _ _ meets.positive) (le-leb _ _ meets.enough)
+  pub bound_found : (qs : List Point) (limit : ℕ) → IsLeastTo (MeetsEach p m sbf sheet i qs) limit (least_to (meets_bound p m sbf sheet i qs) limit)
+  bound_found qs limit = least_to_is (MeetsEach p m sbf sheet i qs) (meets_bound p m sbf sheet i qs) (all_mean qs) (all_true qs) limit
+
+  -- the bound for a window is at most the window and the jitter
+  pub entry_within : (window : ℕ) → (best_of_window p m sbf sheet i window).bound ≤ window + (task_at sheet i).jitter
+  unfolding best_of_window
+  entry_within window =
+      let limit = window + (task_at sheet i).jitter in
+      let points = best_points p m sbf sheet i window in
+      found_within (MeetsEach p m sbf sheet i points) limit _ (bound_found points limit)
 
   pub window_found : (limit : ℕ) → IsLeastTo (IsWindow p m sbf sheet i) limit (least_to (is_window p m sbf sheet i) limit)
-  window_found limit = least_to_is (IsWindow p m sbf sheet i) (is_window p m sbf sheet i) window_means window_from limit
+  window_found limit = least_to_is (IsWindow p m sbf sheet i) (is_window p m sbf sheet i) (window_means p m sbf sheet i) (window_true p m sbf sheet i) limit
 
 -- the function goes on with the entry of the least window
 pub next_entry : (p : PolicyMeaning) (m : CutMeaning) (sbf : ℕ → ℕ) (sheet : SheetParts) (horizon i : ℕ) (entries : List Entry) → first_entries p m sbf sheet horizon i ≡ Ok entries → (window : ℕ) → window ≤ horizon → IsLeast (IsWindow p m sbf sheet i) window →
-    points_to entries i + length (points_below p sheet i window) ≤ 1000000 → first_entries p m sbf sheet horizon (suc i) ≡ Ok (entries ++ best_of_window p m sbf sheet i window ∷ [])
+    points_to entries i + length (points_below p sheet i window) ≤ 1000000 → (best_of_window p m sbf sheet i window).bound ≤ horizon →
+    first_entries p m sbf sheet horizon (suc i) ≡ Ok (entries ++ best_of_window p m sbf sheet i window ∷ [])
 unfolding first_entries
-next_entry p m sbf sheet horizon i entries before window le least few = rw (before, found_is (IsWindow p m sbf sheet i) horizon window _ (window_found p m sbf sheet i horizon) le least, le-leb _ _ few) refl
+next_entry p m sbf sheet horizon i entries before window le least few within = rw (before, found_is (IsWindow p m sbf sheet i) horizon window _ (window_found p m sbf sheet i horizon) le least, le-leb _ _ few, le-leb _ _ within) refl

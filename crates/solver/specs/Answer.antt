@@ -14,7 +14,7 @@ use Rattle.solver.specs.declared.analysis.AnalyseRefusal.TheVariants.{NoBound, P
 -- the best certificate, or the cause why there is none; want of memory is no answer
 abbrev pub IsAnswer : PolicyMeaning → CutMeaning → (ℕ → ℕ) → SheetParts → ℕ → Result Cert AnalyseRefusal → Type 0
 IsAnswer p m sbf sheet horizon (Ok cert) = IsBest p m sbf sheet horizon cert
-IsAnswer p m sbf sheet horizon (Err (NoBound i)) = HasNoBound p m sbf sheet horizon i
+IsAnswer p m sbf sheet horizon (Err (NoBound i part)) = HasNoBound p m sbf sheet horizon i part
 IsAnswer p m sbf sheet horizon (Err (Points i)) = HasManyPoints p m sbf sheet horizon i
 IsAnswer p m sbf sheet horizon (Err Memory) = ⊥
 

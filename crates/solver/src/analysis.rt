@@ -17,11 +17,20 @@ use std::alloc::Global;
 use supply::Supply;
 use task_sheet::Sheet;
 
+/// What of an entry is missing.
+#[derive(Clone, Copy, Debug, PartialEq, Eq)]
+pub enum Part {
+    /// No window up to the horizon supplies what the task's class asks for.
+    Window,
+    /// The least bound that serves at every point is above the horizon.
+    Bound,
+}
+
 /// Why there is no certificate. Tasks are named by their numbers, counted from 0.
 #[derive(Clone, Copy, Debug, PartialEq, Eq)]
 pub enum AnalyseRefusal {
-    /// No window of the task up to the horizon supplies what its class asks for.
-    NoBound { task: u32 },
+    /// The first task that has no bound up to the horizon, for want of this part.
+    NoBound { task: u32, part: Part },
     /// The first task with which there are more than 1,000,000 points.
     Points { task: u32 },
     /// Want of memory.
@@ -47,7 +56,10 @@ fn best_cert<P: Policy, M: Preemption, S: Supply>(
     let mut room = MAX_POINTS;
     for i in 0..sheet.len() {
         let Some(window) = least_window::<P, M, S>(sheet, supply, i, horizon) else {
-            return Err(AnalyseRefusal::NoBound { task: i });
+            return Err(AnalyseRefusal::NoBound {
+                task: i,
+                part: Part::Window,
+            });
         };
         let Some(count) = count_points::<P>(sheet, i, window, room) else {
             return Err(AnalyseRefusal::Points { task: i });
@@ -55,6 +67,12 @@ fn best_cert<P: Policy, M: Preemption, S: Supply>(
         let Ok(entry) = best_entry::<P, M, S>(alloc, sheet, supply, i, window) else {
             return Err(AnalyseRefusal::Memory);
         };
+        if entry.bound > horizon {
+            return Err(AnalyseRefusal::NoBound {
+                task: i,
+                part: Part::Bound,
+            });
+        }
         let Ok(()) = entries.push(entry) else {
             return Err(AnalyseRefusal::Memory);
         };
@@ -66,7 +84,8 @@ fn best_cert<P: Policy, M: Preemption, S: Supply>(
 }
 
 /// The best certificate of a sheet: task by task the least window up to the horizon in ticks, the
-/// points below it with their least ends, and the least bound that serves at every point.
+/// points below it with their least ends, and the least bound that serves at every point, where it is
+/// up to the horizon too.
 ///
 /// It meets every condition but that on deadlines, and no certificate with a point in each entry
 /// that meets these has a smaller window or bound.

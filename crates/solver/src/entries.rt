@@ -8,7 +8,7 @@ ghost use Rattle.solver.specs.Best.{IsBestEntry};
 
 use crate::laws::laws;
 use crate::searches::{least_bound, least_end};
-use certificate::Entry;
+use certificate::{Entry, Point};
 use lists::Items;
 use policy::Policy;
 use preemption::Preemption;
@@ -37,6 +37,7 @@ pub fn count_points<P: Policy>(sheet: &Sheet, i: u32, window: u64, room: u64) ->
 }
 
 /// The best entry of task `i`, whose least window in ticks is given.
+#[tactic(auto, using(task_sheet::specs::Limits::jitter_high))]
 pub fn best_entry<P: Policy, M: Preemption, S: Supply>(
     alloc: Global,
     sheet: &Sheet,
@@ -52,18 +53,19 @@ pub fn best_entry<P: Policy, M: Preemption, S: Supply>(
     ensures window { IfOk result (λ e. e.window ≡ window) }
 {
     laws::<P, M, S>(sheet, supply);
+    let jitter = sheet.task(i).jitter;
     let mut points = Vec::new(alloc);
-    let mut bound = 0;
+    let mut bound = jitter;
     let mut a = 0;
     loop {
-        // The window itself is an end and a bound at each offset below it.
+        // At each offset below it the window is an end, and with the jitter a bound.
         let Some(end) = least_end::<P, M, S>(sheet, supply, i, a, window) else {
             unreachable!()
         };
-        let Some(least) = least_bound::<P, M, S>(sheet, supply, i, a, end, window) else {
+        let Some(least) = least_bound::<P, M, S>(sheet, supply, i, a, end, window + jitter) else {
             unreachable!()
         };
-        points.push((a, end))?;
+        points.push(Point { offset: a, end })?;
         bound = least.max(bound);
         let Some(next) = next_point::<P>(sheet, i, a, window) else {
             return Ok(Entry {

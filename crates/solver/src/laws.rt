@@ -2,8 +2,10 @@
 ghost use Rattle.preemption.specs.CutLaws.{Serves};
 ghost use Rattle.solver.specs.Laws.{Laws};
 
+use demand::{demand_grows, need_falls, need_fits};
 use policy::Policy;
 use preemption::Preemption;
+use search_space::across_gap;
 use supply::Supply;
 use task_sheet::Sheet;
 
@@ -12,6 +14,10 @@ pub fn laws<P: Policy, M: Preemption, S: Supply>(sheet: &Sheet, supply: &S)
     requires served { Serves M.cuts sheet.now }
     ensures { Laws P.meaning M.cuts (S.sbf supply.now) sheet.now }
 {
+    need_fits::<P, M>();
+    demand_grows::<P, M>();
+    need_falls::<P, M>();
+    across_gap::<P>();
     let _tasks = sheet.len();
     supply.known();
 }

@@ -7,6 +7,6 @@ mod laws;
 mod meaning;
 mod searches;
 
-pub use analysis::{AnalyseRefusal, analyse};
+pub use analysis::{AnalyseRefusal, Part, analyse};
 pub use meaning::analysis_has_one_answer;
 pub use searches::{least_bound, least_end, least_window};

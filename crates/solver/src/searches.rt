@@ -5,7 +5,7 @@
 ghost use Rattle.std.specs.Prelude.{◌≤◌, ◌<◌, length};
 ghost use Rattle.lists.specs.Searches.{IsLeastTo};
 ghost use Rattle.preemption.specs.CutLaws.{Serves};
-ghost use Rattle.demand.specs.Meeting.{IsWindow, MeetsEnd, MeetsBound};
+ghost use Rattle.demand.specs.Meeting.{IsWindow, MeetsEnd, BoundMeets};
 
 use crate::laws::laws;
 use demand::{need, rest, window_need};
@@ -69,8 +69,9 @@ pub fn least_end<P: Policy, M: Preemption, S: Supply>(
     None
 }
 
-/// The least bound in ticks up to the limit that meets `K6` and `K8` for task `i` at offset `a`,
-/// whose end is `x`.
+/// The least bound in ticks up to the limit that meets `K2`, `K6` and `K8` for task `i` at offset
+/// `a`, whose end is `x`.
+#[tactic(auto, using(task_sheet::specs::Limits::jitter_high))]
 pub fn least_bound<P: Policy, M: Preemption, S: Supply>(
     sheet: &Sheet,
     supply: &S,
@@ -82,15 +83,15 @@ pub fn least_bound<P: Policy, M: Preemption, S: Supply>(
     requires task { i < length sheet.now.tasks }
     requires offset { a ≤ 1000000000 }
     requires end { x ≤ 1000000000 }
-    requires limit { limit ≤ 1000000000 }
+    requires limit { limit ≤ 2000000000 }
     requires served { Serves M.cuts sheet.now }
-    ensures { IsLeastTo (MeetsBound P.meaning M.cuts (S.sbf supply.now) sheet.now i a x) limit result }
+    ensures { IsLeastTo (BoundMeets P.meaning M.cuts (S.sbf supply.now) sheet.now i a x) limit result }
 {
     laws::<P, M, S>(sheet, supply);
     let wanted = need::<P, M>(sheet, i, a, x) + rest::<M>(sheet, i) as u128;
     let Some(done) = supply.least(wanted, a + limit) else {
         return None;
     };
-    let bound = done.max(x).saturating_sub(a);
+    let bound = done.max(x).saturating_sub(a) + sheet.task(i).jitter;
     if bound <= limit { Some(bound) } else { None }
 }

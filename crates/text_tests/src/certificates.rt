@@ -1,11 +1,11 @@
 //! Certificates written by hand.
-use certificate::{Cert, Entry, LineStep, Lines, read_cert, write_cert};
+use certificate::{Cert, Entry, LineStep, Lines, Point, read_cert, write_cert};
 use lists::Items;
 use poet_io::TextRefusal;
 use std::alloc::{AllocError, Global};
 use std::test::Fail;
 
-/// A window, a bound, and the points.
+/// A window, a bound, and the points: offsets, each with its end.
 type Row = (u64, u64, &'static [(u64, u64)]);
 
 /// A certificate of one task with one point, and one of three tasks, with numbers at the ends of
@@ -63,13 +63,24 @@ const REFUSED: [(&[u8], u64); 15] = [
     ),
 ];
 
+fn make_points(alloc: Global, pairs: &[(u64, u64)]) -> Result<Items<Point>, AllocError> {
+    let mut points = Vec::new(alloc);
+    for (offset, end) in pairs {
+        points.push(Point {
+            offset: *offset,
+            end: *end,
+        })?;
+    }
+    Ok(Items::new(points))
+}
+
 fn make_cert(alloc: Global, rows: &[Row]) -> Result<Cert, AllocError> {
     let mut entries = Vec::new(alloc);
     for (window, bound, points) in rows {
         entries.push(Entry {
             window: *window,
             bound: *bound,
-            points: Items::new(points.to_vec(alloc)?),
+            points: make_points(alloc, points)?,
         })?;
     }
     Ok(Cert {

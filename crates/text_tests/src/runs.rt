@@ -108,6 +108,7 @@ fn make_jobs(alloc: Global, rows: &[Row]) -> Result<Vec<Job>, AllocError> {
         jobs.push(Job {
             task: *task,
             arrival: *arrival,
+            release: *arrival,
             cost: *cost,
             segs: Items::new(segs.to_vec(alloc)?),
         })?;

@@ -11,12 +11,14 @@ use Rattle.exercise.proofs.running.exercise.Goals as goal
 
 pub unreachable-requires : goal.unreachable-requires
 unreachable-requires c =
-    never_refused c.args.seed c.args.tasks c.in_ok-sheet.sheet (NoBound c.in-Err-NoBound.field-0-0) c.in_ok-sheet.ensures (c.exercise_succeeds.ensures c.args.seed c.args.tasks c.requires.some c.requires.few)
+    never_refused c.args.seed c.args.tasks c.in_ok-sheet.sheet (NoBound c.in-Err-NoBound.field-0-0 c.in-Err-NoBound.field-0-1) c.in_ok-sheet.ensures
+    (c.exercise_succeeds.ensures c.args.seed c.args.tasks c.requires.some c.requires.few)
     (rw c.in-Err-NoBound.field-0-is at c.in-Err-NoBound.ensures.exact)
 
 pub unreachable-requires-in-Err-Points : goal.unreachable-requires-in-Err-Points
 unreachable-requires-in-Err-Points c =
-    never_refused c.args.seed c.args.tasks c.in_ok-sheet.sheet (Points c.in-Err-Points.field-0-0) c.in_ok-sheet.ensures (c.exercise_succeeds.ensures c.args.seed c.args.tasks c.requires.some c.requires.few)
+    never_refused c.args.seed c.args.tasks c.in_ok-sheet.sheet (Points c.in-Err-Points.field-0-0) c.in_ok-sheet.ensures
+    (c.exercise_succeeds.ensures c.args.seed c.args.tasks c.requires.some c.requires.few)
     (rw c.in-Err-Points.field-0-is at c.in-Err-Points.ensures.exact)
 
 pub simulate-requires-clause-stated : goal.simulate-requires-clause-stated
@@ -41,19 +43,38 @@ count_points-requires c = omega (arith, points_few c.in_ok-sheet.sheet c.in-Ok.c
 pub count_done-requires : goal.count_done-requires
 count_done-requires c =
     let fault = first_broken edf_meaning per_task_meaning (λ d. d) c.in_ok-sheet.sheet c.in-Ok-simulate.run' in
-    let seen = seen_is c.args.seed c.args.tasks c.in_ok-sheet.sheet c.in-Ok-simulate.run' fault c.in-Compliant.seen c.in_ok-sheet.ensures (sym c.in-Compliant.is ∙ c.in_ok-seen.ensures.exact) in
-    omega (arith, done_few c.args.tasks c.in-Ok-simulate.run' c.in-Compliant.seen c.as_slice-3.result.now c.requires.few c.in-Ok-simulate.ensures.within.few_jobs seen c.as_slice-3.ensures)
+    let seen =
+    seen_is c.args.seed c.args.tasks c.in_ok-sheet.sheet c.in-Ok-simulate.run' fault c.in-Compliant.seen c.in_ok-sheet.ensures
+    (sym c.in-Compliant.is ∙ c.in_ok-seen.ensures.exact) in
+    omega (
+      arith,
+      done_few c.args.tasks c.in-Ok-simulate.run' c.in-Compliant.seen c.as_slice-3.result.now c.requires.few
+          c.in-Ok-simulate.ensures.within.few_jobs seen c.as_slice-3.ensures,
+    )
 
 pub returns-clause-exact : goal.returns-clause-exact
 returns-clause-exact c =
     let law = c.exercise_succeeds.ensures c.args.seed c.args.tasks c.requires.some c.requires.few in
     let fault = first_broken edf_meaning per_task_meaning (λ d. d) c.in_ok-sheet.sheet c.in-Ok-simulate.run' in
-    let seen = seen_is c.args.seed c.args.tasks c.in_ok-sheet.sheet c.in-Ok-simulate.run' fault c.in-Compliant.seen c.in_ok-sheet.ensures (sym c.in-Compliant.is ∙ c.in_ok-seen.ensures.exact) in
+    let seen =
+    seen_is c.args.seed c.args.tasks c.in_ok-sheet.sheet c.in-Ok-simulate.run' fault c.in-Compliant.seen c.in_ok-sheet.ensures
+    (sym c.in-Compliant.is ∙ c.in_ok-seen.ensures.exact) in
     exercise_is c.args.seed c.args.tasks c.in-Ok.cert c.in-Ok-simulate.run' c.in-Compliant.seen _
     (cert_is c.args.seed c.args.tasks c.in_ok-sheet.sheet c.in-Ok.cert c.in_ok-sheet.ensures c.in-Ok.ensures.exact)
     (run_is c.args.seed c.args.tasks c.in_ok-sheet.sheet c.in-Ok-simulate.run' c.in_ok-sheet.ensures law c.in-Ok-simulate.ensures.exact)
     seen
-    (rw (c.count_points.ensures, c.greatest_bound.ensures, c.len.ensures, c.count_done.ensures, c.worst_of.ensures, c.as_slice.ensures, c.as_slice-2.ensures, c.as_slice-3.ensures, c.as_slice-4.ensures) refl)
+    (rw (
+      c.count_points.ensures,
+      c.greatest_bound.ensures,
+      c.len.ensures,
+      c.count_done.ensures,
+      c.worst_of.ensures,
+      c.as_slice.ensures,
+      c.as_slice-2.ensures,
+      c.as_slice-3.ensures,
+      c.as_slice-4.ensures,
+    )
+    refl)
 
 pub returns-clause-sound : goal.returns-clause-sound
 returns-clause-sound c =

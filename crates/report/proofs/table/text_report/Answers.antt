@@ -26,4 +26,4 @@ returns c =
     let count : c.len-tasks.result ≡ length (rows_of c.args.sheet.now c.args.cert.now) = c.len-tasks.ensures.len ∙ sym (rows_count c.args.sheet.now.tasks c.args.cert.now.entries c.requires.tasks) in
     let whole = rw (count, c.count_missed-missed.ensures) at last in
     let bytes : c.into_bytes.result.items ≡ string_bytes c.writeln.new.self = search rules in
-    bytes ∙ whole ∙ ap (λ (x : List ℕ). x ++ last_line (rows_of c.args.sheet.now c.args.cert.now)) body ∙ append_assoc header (flat_map row_line (rows_of c.args.sheet.now c.args.cert.now)) (last_line (rows_of c.args.sheet.now c.args.cert.now))
+    record { bytes = bytes ∙ whole ∙ ap (λ (x : List ℕ). x ++ last_line (rows_of c.args.sheet.now c.args.cert.now)) body ∙ append_assoc header (flat_map row_line (rows_of c.args.sheet.now c.args.cert.now)) (last_line (rows_of c.args.sheet.now c.args.cert.now)) }

@@ -15,7 +15,7 @@ pub returns-clause-least : goal.returns-clause-least
 returns-clause-least g c = IfOk-weaker _ _ _ (none_smaller _ _ _ _ _ c.laws.ensures) c.best_cert.ensures.best
 
 pub returns-clause-none : goal.returns-clause-none
-returns-clause-none g c = IfErr-weaker _ _ _ (none_where _ _ _ _ _) c.best_cert.ensures.cause
+returns-clause-none g c = IfErr-weaker _ _ _ (none_where _ _ _ _ _ c.laws.ensures) c.best_cert.ensures.cause
 
 pub returns-clause-exact : goal.returns-clause-exact
 returns-clause-exact g c = best_answer _ _ _ _ _ c.laws.ensures c.best_cert.result c.best_cert.ensures.best c.best_cert.ensures.cause

@@ -3,5 +3,4 @@ use Rattle.solver.proofs.laws.laws.Goals as goal
 
 pub returns : goal.returns
 returns g c =
-    let valid = c.len-tasks.ensures.valid in
-    laws_hold _ _ _ _ valid (g.met.P.Policy.lawful _ valid) (λ o b. g.met.M.Preemption.lawful _ (valid.each o b) (c.requires.served o b)) (λ d. (g.met.S.Supply.grows c.args.supply.now d c.known.ensures).0)
+    laws_hold _ _ _ _ c.need_fits.ensures c.demand_grows.ensures c.need_falls.ensures c.across_gap.ensures c.len-tasks.ensures.valid c.requires.served (λ d. (g.met.S.Supply.grows c.args.supply.now d c.known.ensures).0)

@@ -21,7 +21,7 @@ pub struct Rank {
 
 /// The run so far, and what the next tick needs.
 #[derive(Drop)]
-pub struct Machine {
+pub struct Simulation {
     pub jobs: Vec<Job>,
     pub ticks: Vec<Tick>,
     pub words: SplitMix64,

@@ -1,4 +1,4 @@
--- How the machine stands to the run so far.
+-- How the simulation stands to the run so far: the code's own invariants. Nothing here is to be believed.
 use Rattle.std.specs.Prelude.{◌≡◌, ◌≢◌, ℕ, ◌+◌, ◌<◌, ◌≤◌, List, Bool, true, false, length, Option, Some, None, slice_index_or}
 use Rattle.std.specs.BTreeMap.{BTreeMap, get, IsLowerBound}
 use Rattle.std.specs.Global.{Vec}
@@ -22,8 +22,8 @@ use Rattle.simulated_run.specs.Jobs.{floating_segments}
 use Rattle.simulated_run.specs.SimulatedRun.{World, Moment, world_of}
 use Rattle.windows.specs.Crowds.{AreArrivals}
 use Rattle.windows.specs.Supplied.{AreCounts}
-use Rattle.simulator.specs.declared.machine.Machine.{Machine}
-use Rattle.simulator.specs.declared.machine.Rank.{Rank}
+use Rattle.simulator.specs.declared.simulation.Simulation.{Simulation}
+use Rattle.simulator.specs.declared.simulation.Rank.{Rank}
 use Rattle.simulator.specs.Simulations.{refused_by}
 use Rattle.simulator.specs.Ranks.{rank_of, rank_cmp}
 
@@ -32,12 +32,12 @@ abbrev pub world_by : PolicyMeaning → CutMeaning → SheetParts → Mode → W
 world_by p m sheet mode = world_of p m (sbf_of sheet.supply) sheet mode
 
 -- the run so far
-abbrev pub run_of : Machine → Run
-run_of machine = record { jobs = machine.jobs.items; ticks = machine.ticks.items }
+abbrev pub run_of : Simulation → Run
+run_of simulation = record { jobs = simulation.jobs.items; ticks = simulation.ticks.items }
 
 -- with the generator's state
-abbrev pub moment_of : Machine → Moment
-moment_of machine = record { run = run_of machine; state = machine.words }
+abbrev pub moment_of : Simulation → Moment
+moment_of simulation = record { run = run_of simulation; state = simulation.words }
 
 -- the service that job k still needs
 abbrev pub left_at : List ℕ → ℕ → ℕ
@@ -70,6 +70,7 @@ FloatsBy (Floating bound) j = j.segs ≡ floating_segments bound j.cost
 pub record IsKnown (m : CutMeaning) (sheet : SheetParts) (t : ℕ) (j : Job) : Type 0 where
   pub task : j.task < length sheet.tasks
   pub arrived : j.arrival ≤ t
+  pub prompt : j.release ≡ j.arrival
   pub cost : j.cost ≤ 1000000000
   pub fits : m.fits (task_at sheet j.task) j ≡ true
   pub floats : FloatsBy (task_at sheet j.task).cut j
@@ -80,7 +81,7 @@ pub record IsWithin (jobs : List Job) : Type 0 where
   pub few_jobs : length jobs ≤ 20000
   pub few_segments : segments_of jobs ≤ 1000000
 
--- what the machine keeps of its jobs, before tick t
+-- what the simulation keeps of its jobs, before tick t
 pub record IsKeptAt (p : PolicyMeaning) (m : CutMeaning) (sheet : SheetParts) (t : ℕ) (run : Run) (left : List ℕ) (queue : BTreeMap Rank ℕ) (inside : Option ℕ) : Type 0 where
   pub now : length run.ticks ≡ t
   pub known : (k : ℕ) → k < length run.jobs → IsKnown m sheet t (job_at run k)
@@ -96,15 +97,15 @@ pub record HasArrivals (n : ℕ) (run : Run) (lists : List (Vec ℕ)) : Type 0 w
   pub tasks : length lists ≡ n
   pub each : (o : ℕ) (d : Vec ℕ) → o < n → AreArrivals run o (slice_index_or lists o d).items
 
--- what the machine keeps before tick t
+-- what the simulation keeps before tick t
 pub record IsKeptBy (p : PolicyMeaning) (m : CutMeaning) (sheet : SheetParts) (t : ℕ) (run : Run) (left : List ℕ) (queue : BTreeMap Rank ℕ) (inside : Option ℕ) (total : ℕ) (lists : List (Vec ℕ)) (sums : List ℕ) : Type 0 where
   pub jobs : IsKeptAt p m sheet t run left queue inside
   pub segments : total ≡ segments_of run.jobs
   pub arrivals : HasArrivals (length sheet.tasks) run lists
   pub counts : AreCounts run sums t
 
-abbrev pub IsKept : PolicyMeaning → CutMeaning → SheetParts → ℕ → Machine → Type 0
-IsKept p m sheet t machine = IsKeptBy p m sheet t (run_of machine) machine.left.items machine.queue machine.inside machine.segments machine.arrivals.items machine.counts.items
+abbrev pub IsKept : PolicyMeaning → CutMeaning → SheetParts → ℕ → Simulation → Type 0
+IsKept p m sheet t simulation = IsKeptBy p m sheet t (run_of simulation) simulation.left.items simulation.queue simulation.inside simulation.segments simulation.arrivals.items simulation.counts.items
 
 -- where a job is inside a segment, it alone may run
 abbrev pub CanRun : Option ℕ → ℕ → Type 0
@@ -117,13 +118,13 @@ pub record IsFirstEntry (queue : BTreeMap Rank ℕ) (k : ℕ) : Type 0 where
   pub got : get rank_cmp queue rank ≡ Some k
   pub least : IsLowerBound rank_cmp queue rank
 
--- a tick that the machine can take
-abbrev pub MayBe : Machine → Tick → Type 0
-MayBe machine Off = Unit {0}
-MayBe machine Idle = Unit {0}
-MayBe machine (Runs k) = (k < length machine.jobs.items) × (0 < left_at machine.left.items k) × CanRun machine.inside k
+-- a tick that the simulation can take
+abbrev pub MayBe : Simulation → Tick → Type 0
+MayBe simulation Off = Unit {0}
+MayBe simulation Idle = Unit {0}
+MayBe simulation (Runs k) = (k < length simulation.jobs.items) × (0 < left_at simulation.left.items k) × CanRun simulation.inside k
 
--- a job that the machine can take up
+-- a job that the simulation can take up
 pub record IsNew (m : CutMeaning) (sheet : SheetParts) (jobs : List Job) (j : Job) : Type 0 where
   pub known : IsKnown m sheet j.arrival j
   pub positive : 1 ≤ j.cost
@@ -131,8 +132,8 @@ pub record IsNew (m : CutMeaning) (sheet : SheetParts) (jobs : List Job) (j : Jo
   pub few_jobs : length jobs < 20000
   pub few_segments : segments_of jobs + length j.segs ≤ 1000000
 
--- all but what the machine keeps of the jobs that are not done
-pub record KeepsRest (before after : Machine) : Type 0 where
+-- all but what the simulation keeps of the jobs that are not done
+pub record KeepsRest (before after : Simulation) : Type 0 where
   pub jobs : after.jobs ≡ before.jobs
   pub ticks : after.ticks ≡ before.ticks
   pub words : after.words ≡ before.words

@@ -18,7 +18,7 @@ use Rattle.simulated_run.specs.declared.mode.Mode.{Mode}
 use Rattle.simulated_run.specs.declared.mode.Mode.TheVariants.{Dense, Seed}
 use Rattle.simulated_run.specs.Jobs.{new_job}
 use Rattle.simulated_run.specs.SimulatedRun.{World, Moment, with_job, with_tick, admits, allowance_of, arriving, after_arriving, is_off, may_be_off, choice, room, add_job, add_jobs, arrive_of, arrive_below, add_tick, moment_after, simulated_run}
-use Rattle.simulated_run.proofs.RunFacts.{job_kept, job_new, jobs_more, arrivals_more, arrivals_le}
+use Rattle.simulated_run.proofs.RunFacts.{at_most_one, job_kept, job_new, jobs_more, arrivals_more, arrivals_le}
 use Rattle.simulated_run.proofs.JobFacts.{new_fits_by}
 use Rattle.simulated_run.proofs.Soundness.{IsLawful, IsSound, HasRoom}
 use Rattle.simulated_run.proofs.AddedJobs.{sound_job}
@@ -58,10 +58,6 @@ past_tick : (t : ℕ) (run : Run) (y : Tick) → ((k : ℕ) → k < length run.j
     k < length (with_tick run y).jobs → (job_at (with_tick run y) k).arrival < suc t
 unfolding with_tick
 past_tick t run y early k b = omega (arith, early k b)
-
-at_most_one : (b : Bool) → cond {A = ℕ} b 1 0 ≤ 1
-at_most_one true = omega arith
-at_most_one false = omega arith
 
 module _ (w : World) (laws : IsLawful w) where
   by_off : {t : ℕ} {run : Run} {y : Tick} (off : Bool) → (off ≡ true → MayFollow w t run Off) → MayFollow w t run y → MayFollow w t run (cond off Off y)

@@ -20,6 +20,7 @@ use Rattle.windows.specs.Arrivals.{IsPast}
 use Rattle.windows.specs.Crowds.{AreArrivals}
 use Rattle.windows.specs.Supplied.{AreCounts, ArePromised}
 use Rattle.windows.proofs.CrowdFacts.{arrival_job}
+use Rattle.windows.proofs.TickCounts.{ticks_in_split}
 use Rattle.simulator.proofs.SameAnswers.{lists_none, lists_tick, lists_own, lists_other, counts_tick}
 use Rattle.simulator.specs.SimulationState.{HasArrivals}
 
@@ -81,15 +82,6 @@ past_is w o t run xs b between are = record {
 
 -- supplied ticks
 
-supplied_split : (run : Run) (s d : ℕ) → s + d ≤ length run.ticks → ticks_in is_on run 0 (s + d) ≡ ticks_in is_on run 0 s + ticks_in is_on run s d
-supplied_split run s zero h = rw add-zero (omega (arith, ticks_in_none is_on run s))
-supplied_split run s (suc d) h =
-    let z : 0 + (s + d) ≡ s + d = omega arith in
-    let front : ticks_in is_on run 0 (suc (s + d)) ≡ ticks_in is_on run 0 (s + d) + cond {A = ℕ} (is_on (tick_at run (s + d))) 1 0 =
-    ticks_in_more is_on run 0 (s + d) (omega arith) ∙ ap
-    (λ (i : ℕ). ticks_in is_on run 0 (s + d) + cond {A = ℕ} (is_on (tick_at run i)) 1 0) z in
-    rw add-suc (omega (arith, supplied_split run s d (omega arith), front, ticks_in_more is_on run s d (omega arith)))
-
 pub are_counts_more : (t : ℕ) (run : Run) (counts : List ℕ) (x : Tick) (n : ℕ) → length run.ticks ≡ t →
     AreCounts run counts t → n ≡ get_or counts t 0 + cond {A = ℕ} (is_on x) 1 0 →
     AreCounts (with_tick run x) (counts ++ n ∷ []) (suc t)
@@ -105,10 +97,6 @@ count_low t run counts now are =
 pub last_count : (counts now : Vec ℕ) (t x : ℕ) → now ≡ counts → t < length counts.items → x ≡ get_or now.items t x → x ≡ get_or counts.items t 0
 last_count counts now t x e b h = get_or_read counts.items t x b (h ∙ ap (λ (v : Vec ℕ). get_or v.items t x) e) 0
 
-pub one_at_most : (b : Bool) → cond {A = ℕ} b 1 0 ≤ 1
-one_at_most true = omega arith
-one_at_most false = omega arith
-
 -- the run so far has the promised ticks
 pub promised_is : (w : World) (t : ℕ) (run : Run) (counts : List ℕ) → IsSound w t run → AreCounts run counts t → ArePromised w.sbf counts t
 promised_is w t run counts sound are = record {
@@ -118,7 +106,7 @@ promised_is w t run counts sound are = record {
       omega (
         arith,
         sound.complies.supplied s u h (omega (arith, sound.now)),
-        supplied_split run s (u - s) (omega (arith, sound.now)),
+        ticks_in_split is_on run s (u - s) (omega (arith, sound.now)),
         ap (ticks_in is_on run 0) e,
         are.each s (omega arith),
         are.each u l,

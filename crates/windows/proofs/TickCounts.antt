@@ -10,7 +10,7 @@ use Rattle.schedule_laws.proofs.TestFacts.{short_from, short_to}
 use Rattle.windows.specs.Supplied.{AreCounts, ArePromised, MayBeOff}
 
 -- the ticks before s + d, in two parts
-ticks_in_split : (test : Tick → Bool) (run : Run) (s d : ℕ) → s + d ≤ length run.ticks → ticks_in test run 0 (s + d) ≡ ticks_in test run 0 s + ticks_in test run s d
+pub ticks_in_split : (test : Tick → Bool) (run : Run) (s d : ℕ) → s + d ≤ length run.ticks → ticks_in test run 0 (s + d) ≡ ticks_in test run 0 s + ticks_in test run s d
 ticks_in_split test run s zero h = rw add-zero (omega (arith, ticks_in_none test run s))
 ticks_in_split test run s (suc d) h =
     let e : 0 + (s + d) ≡ s + d = omega arith in

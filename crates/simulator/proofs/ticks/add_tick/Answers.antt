@@ -6,11 +6,12 @@ use Rattle.task_sheet.specs.declared.tasks.Job.{Job}
 use Rattle.run_model.specs.declared.run.Tick.{Tick}
 use Rattle.run_model.specs.Runs.{is_on}
 use Rattle.simulated_run.specs.SimulatedRun.{World, Moment, may_be_off, with_tick}
+use Rattle.simulated_run.proofs.RunFacts.{at_most_one}
 use Rattle.windows.specs.Supplied.{MayBeOff}
 use Rattle.simulator.proofs.SameAnswers.{off_same}
 use Rattle.simulator.specs.SimulationState.{IsKeptAt, HasCuts, run_of, moment_of, world_by}
 use Rattle.simulator.proofs.ArrivalFacts.{lawful_world, counts_promised}
-use Rattle.simulator.proofs.WindowFacts.{count_low, last_count, one_at_most}
+use Rattle.simulator.proofs.WindowFacts.{count_low, last_count}
 use Rattle.simulator.proofs.TickFacts.{with_tick_is, ticked, kept_then}
 use Rattle.simulator.proofs.ticks.add_tick.Goals as goal
 
@@ -37,7 +38,7 @@ overflow_add-count g c =
     let last =
     last_count m.counts c.advance.new.simulation.counts c.args.t c.index.result.now c.advance.ensures.rest.counts
     (omega (arith, c.requires.kept.counts.counted)) c.index.ensures in
-    omega (arith, last, count_low c.args.t (run_of m) m.counts.items c.requires.kept.jobs.now c.requires.kept.counts, c.count_on.ensures, one_at_most (is_on c.pick-tick.result))
+    omega (arith, last, count_low c.args.t (run_of m) m.counts.items c.requires.kept.jobs.now c.requires.kept.counts, c.count_on.ensures, at_most_one (is_on c.pick-tick.result))
 
 pub returns-clause-moment : goal.returns-clause-moment
 returns-clause-moment g c =

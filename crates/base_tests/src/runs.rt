@@ -22,7 +22,7 @@ fn short_run(alloc: Global) -> Result<Run, AllocError> {
     let jobs = vec![in alloc;
         make_job(alloc, 0, 0, 0, 1),
         make_job(alloc, 1, 1, 1, 2),
-        make_job(alloc, 2, 1, 4, 1)
+        make_job(alloc, 2, 1, 4, 1),
     ]?;
     let ticks = [
         Tick::Off,

@@ -1,5 +1,5 @@
 -- What is least serves: the best entry against any that meets the conditions, and against its window.
-use Rattle.std.proofs.Common.{◌≡◌, ℕ, ◌+◌, ◌-◌, ◌<◌, ◌≤◌, Bool, Option, Some, None, List, [], ◌∷◌, length, ap, arith}
+use Rattle.std.proofs.Common.{◌≡◌, ℕ, ◌+◌, ◌<◌, ◌≤◌, Bool, Option, Some, None, List, [], ◌∷◌, length, arith}
 use Rattle.std.specs.List.{AllByRecursion}
 use Rattle.lists.specs.Searches.{IsLeast}
 use Rattle.task_sheet.specs.SheetParts.{SheetParts}
@@ -9,7 +9,7 @@ use Rattle.preemption.specs.CutMeaning.{CutMeaning}
 use Rattle.certificate.specs.declared.cert.Entry.{Entry}
 use Rattle.certificate.specs.declared.cert.Point.{Point}
 use Rattle.demand.specs.Meeting.{IsWindow, MeetsEnd, MeetsBound, BoundMeets, MeetsAt, PointsMeet, EveryOffset}
-use Rattle.demand.proofs.MeetingFacts.{Reaches, from_reach, every_offset}
+use Rattle.demand.proofs.MeetingFacts.{from_reach, every_offset}
 use Rattle.conditions.specs.Meets.{pairs_of, TaskMeets}
 use Rattle.conditions.proofs.MeetFacts.{pairs_count}
 use Rattle.solver.specs.Laws.{Laws}

@@ -5,7 +5,6 @@ use Rattle.task_sheet.specs.SheetParts.{SheetParts}
 use Rattle.policy.specs.PolicyMeaning.{PolicyMeaning}
 use Rattle.preemption.specs.CutMeaning.{CutMeaning}
 use Rattle.certificate.specs.declared.cert.Cert.{Cert}
-use Rattle.certificate.specs.declared.cert.Point.{Point}
 use Rattle.certificate.specs.Text.{IsPoint, IsEntry, IsWithinGrammar}
 use Rattle.conditions.specs.Conditions.{no_entry, entry_at, failed_of}
 use Rattle.conditions.proofs.MeetFacts.{cert_means, cert_none}

@@ -1,5 +1,5 @@
 -- Best certificates under release jitter, worked out by hand.
-use Rattle.std.proofs.Common.{◌≡◌, ℕ, List, [], ◌∷◌, Ok, Err, refl}
+use Rattle.std.proofs.Common.{◌≡◌, [], ◌∷◌, Ok, Err, refl}
 use Rattle.curve.specs.Curves.{value_of, alpha_of}
 use Rattle.task_sheet.specs.Sheets.{no_task}
 use Rattle.policy.specs.Policies.{fp_meaning, fifo_meaning}

@@ -62,8 +62,7 @@ pub fn best_entry<P: Policy, M: Preemption, S: Supply>(
         let Some(end) = least_end::<P, M, S>(sheet, supply, i, a, window) else {
             unreachable!()
         };
-        let Some(least) = least_bound::<P, M, S>(sheet, supply, i, a, end, window + jitter)
-        else {
+        let Some(least) = least_bound::<P, M, S>(sheet, supply, i, a, end, window + jitter) else {
             unreachable!()
         };
         points.push(Point { offset: a, end })?;

@@ -1,18 +1,20 @@
 -- What the sums of first segments tell of where a job can be cut.
-use Rattle.std.proofs.Common.{◌≡◌, ℕ, zero, suc, ◌+◌, ◌-◌, ◌<◌, ◌≤◌, ◌==◌, ◌&&◌, ◌||◌, ◌⊎◌, Bool, true, List, [], ◌∷◌, length, get_or, is_ok, refl, sym, ◌∙◌, ap, subst, inl, inr, arith, leb}
+use Rattle.std.proofs.Common.{◌≡◌, ℕ, zero, suc, ◌+◌, ◌-◌, ◌<◌, ◌≤◌, ◌==◌, ◌&&◌, ◌||◌, ◌⊎◌, Bool, true, List, [], ◌∷◌, length, sum, get_or, is_ok, refl, sym, ◌∙◌, ap, subst, inl, inr, arith, leb}
 use Rattle.std.specs.declared.result.Result.{Result}
 use Rattle.std.specs.declared.result.Result.TheVariants.{Ok, Err}
 use Rattle.std.specs.List.Sorted.{IsBinarySearchResult}
 use Rattle.std.specs.Ordering.{nat_cmp}
 use Rattle.std.proofs.lemmas.Bool.{cases_Bool, cases_lt, leb-true, eqb-true, and_from, and_parts, or_cases, le-leb}
 use Rattle.std.proofs.lemmas.List.Sorted.{searched}
+use Rattle.lists.specs.Ranges.{is_between}
+use Rattle.task_sheet.specs.Sheets.{IsTask}
 use Rattle.task_sheet.specs.declared.tasks.Cut.{Cut}
 use Rattle.task_sheet.specs.declared.tasks.Cut.TheVariants.{Full, Never, Fixed, Floating}
 use Rattle.task_sheet.specs.declared.tasks.Job.{Job}
 use Rattle.task_sheet.specs.declared.tasks.Task.{Task}
 use Rattle.preemption.specs.CutMeaning.{CutMeaning}
-use Rattle.preemption.specs.CutLaws.{IsTabledCut}
-use Rattle.preemption.specs.Cuts.{is_prefix_sum, cuttable_by}
+use Rattle.preemption.specs.CutLaws.{IsLawfulCut, IsTabledCut}
+use Rattle.preemption.specs.Cuts.{is_prefix_sum, has_none, each_within, are_lengths_within, cuttable_by, segments_fit}
 use Rattle.preemption.specs.Segments.{or_right, prefix_zero}
 use Rattle.audit.specs.CutSums.{sums_from}
 
@@ -106,3 +108,19 @@ pub searched_cut : (m : CutMeaning) (task : Task) (j : Job) (sums : List ℕ) (s
 searched_cut m task j sums s r found tabled cut are h is =
     let same = found_is j.segs s r (subst (λ (l : List ℕ). IsBinarySearchResult (λ y. nat_cmp y s) l r) are h) in
     ap (λ (b : Bool). b || leb j.cost s) (sym is ∙ same) ∙ (sym (cut_by task.cut j s (segments_either task.cut cut)) ∙ sym (tabled.same_cuts j s))
+
+none_sum : (xs : List ℕ) → has_none xs ≡ true → sum xs ≡ 0
+none_sum [] h = refl
+none_sum (x ∷ xs) h = absurd (cc)
+
+segments_sum : (cut : Cut) (j : Job) → segments_fit cut j ≡ true → sum j.segs ≤ j.cost
+segments_sum Full j h = omega (arith, none_sum j.segs h)
+segments_sum Never j h = omega (arith, none_sum j.segs h)
+segments_sum (Fixed segments) j h = omega (arith, eqb-true (sum j.segs) j.cost (and_parts (each_within j.segs segments) (sum j.segs == j.cost) h).1)
+segments_sum (Floating bound) j h = omega (arith, eqb-true (sum j.segs) j.cost (and_parts (are_lengths_within bound j.segs) (sum j.segs == j.cost) h).1)
+
+-- the segments of a job that fits sum up to at most 10^9
+pub few_segments : (m : CutMeaning) (task : Task) (j : Job) → IsTask task → IsLawfulCut m task → IsTabledCut m task → m.fits task j ≡ true → sum j.segs ≤ 1000000000
+few_segments m task j ok lawful tabled fit =
+    let parts = and_parts (is_between 1 task.cost j.cost) (segments_fit task.cut j) (sym (tabled.same_fits j) ∙ fit) in
+    omega (arith, segments_sum task.cut j parts.1, lawful.cost_bound j fit, ok.cost_high)

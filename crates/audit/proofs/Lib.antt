@@ -1,8 +1,6 @@
 pub mod SearchFacts
-pub mod TestFacts
 pub mod FaultFacts
 pub mod VerdictFacts
-pub mod FindingFacts
 pub mod ServedFacts
 pub mod ResponseFacts
 pub mod ReadFacts

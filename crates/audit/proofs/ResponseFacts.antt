@@ -9,6 +9,7 @@ use Rattle.run_model.specs.declared.run.Tick.TheVariants.{Runs}
 use Rattle.run_model.specs.Runs.{job_at, tick_at, service_of, is_done}
 use Rattle.run_model.proofs.PendingFacts.{undone}
 use Rattle.run_model.proofs.ServiceFacts.{service_none, step_cases, service_le, same_job}
+use Rattle.schedule_laws.proofs.TestFacts.{valid_from}
 use Rattle.audit.specs.declared.verdict.Seen.{Seen}
 use Rattle.audit.specs.Responses.{since, done_before, response_of, is_of, seen_among}
 use Rattle.audit.specs.Relations.{ArePositive, AreValid, IsResponse, AreResponses, with_job}
@@ -81,7 +82,7 @@ responses_wait run t j responses b is less rs = record {
 pub responses_finish : (run : Run) (t j : ℕ) (responses : List (Option ℕ)) → t < length run.ticks → AreValid run → tick_at run t ≡ Runs j → (job_at run j).cost ≤ service_of run j (suc t) → AreResponses run t responses →
     AreResponses run (suc t) (set responses j (Some (suc t - (job_at run j).arrival)))
 responses_finish run t j responses b valid is done rs =
-    let pending = ((valid t b).may_run j is).pending in
+    let pending = (valid_from run t j (valid t b) is).pending in
     record {
       count = length-set responses j (Some (suc t - (job_at run j).arrival)) ∙ rs.count;
       each = λ k c. elim (cases_eq k j) [

@@ -105,20 +105,20 @@ pub record IsOvertaken (p : PolicyMeaning) (sheet : SheetParts) (run : Run) (key
   pub waits : IsPending run job t
   pub urgent : key_le key (p.key sheet (job_at run job)) ≡ false
 
--- the job, if there is one, has arrived by t
-abbrev pub HasArrived : Run → ℕ → Option ℕ → Type 0
-HasArrived run t None = ⊥
-HasArrived run t (Some k) = (job_at run k).arrival ≤ t
+-- the job, if there is one, has been released by t
+abbrev pub HasRelease : Run → ℕ → Option ℕ → Type 0
+HasRelease run t None = ⊥
+HasRelease run t (Some k) = (job_at run k).release ≤ t
 
 -- the job, if there is one, arrived before this tick
 abbrev pub IsEarlier : Run → ℕ → Option ℕ → Type 0
 IsEarlier run t None = ⊥
 IsEarlier run t (Some k) = (job_at run k).arrival < t
 
--- the job, if there is one, has arrived by t and is more urgent than this key
+-- the job, if there is one, has been released by t and is more urgent than this key
 abbrev pub IsMoreUrgent : PolicyMeaning → SheetParts → Run → Key → ℕ → Option ℕ → Type 0
 IsMoreUrgent p sheet run key t None = ⊥
-IsMoreUrgent p sheet run key t (Some k) = ((job_at run k).arrival ≤ t) × (key_le key (p.key sheet (job_at run k)) ≡ false)
+IsMoreUrgent p sheet run key t (Some k) = ((job_at run k).release ≤ t) × (key_le key (p.key sheet (job_at run k)) ≡ false)
 
 -- of the first n jobs only this one, if any, fails the test
 abbrev pub OnlyFails : (ℕ → Bool) → ℕ → Option ℕ → Type 0

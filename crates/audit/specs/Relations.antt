@@ -1,7 +1,6 @@
 -- What the searches rest on.
-use Rattle.std.specs.Prelude.{◌≡◌, ℕ, ◌+◌, ◌<◌, ◌≤◌, List, length, slice_index_or, max, true, false, Option, Some, None}
+use Rattle.std.specs.Prelude.{◌≡◌, ℕ, ◌+◌, ◌<◌, ◌≤◌, Bool, List, length, slice_index_or, max, true, false, Option, Some, None}
 use Rattle.task_sheet.specs.SheetParts.{SheetParts}
-use Rattle.policy.specs.PolicyMeaning.{PolicyMeaning}
 use Rattle.preemption.specs.CutMeaning.{CutMeaning}
 use Rattle.run_model.specs.declared.run.Run.{Run}
 use Rattle.run_model.specs.declared.run.Tick.TheVariants.{Runs}
@@ -9,13 +8,14 @@ use Rattle.run_model.specs.Runs.{job_at, tick_at, service_of, is_done}
 use Rattle.audit.specs.declared.verdict.Seen.{Seen}
 use Rattle.audit.specs.Responses.{since, done_before}
 use Rattle.schedule_laws.specs.Compliance.{JobFits}
-use Rattle.schedule_laws.specs.Tests.{IsValidAt, IsIdleBroken, IsSegmentBroken, IsPriorityBroken}
+use Rattle.schedule_laws.specs.Tests.{is_valid_at}
 
--- the run is of the size that can be written, and its ticks run its jobs
+-- the run is of the size that can be written, each job is released at its arrival, and the ticks run its jobs
 pub record IsSmall (run : Run) : Type 0 where
   pub few_jobs : length run.jobs ≤ 20000
   pub few_ticks : length run.ticks ≤ 100000
   pub early : (k : ℕ) → k < length run.jobs → (job_at run k).arrival ≤ 1000000000
+  pub released : (k : ℕ) → k < length run.jobs → (job_at run k).release ≡ (job_at run k).arrival
   pub named : (t k : ℕ) → tick_at run t ≡ Runs k → k < length run.jobs
 
 -- every job fits
@@ -28,23 +28,13 @@ ArePositive run = (k : ℕ) → k < length run.jobs → 1 ≤ (job_at run k).cos
 
 -- every tick is valid
 abbrev pub AreValid : Run → Type 0
-AreValid run = (t : ℕ) → t < length run.ticks → IsValidAt run t
+AreValid run = (t : ℕ) → t < length run.ticks → is_valid_at run t ≡ true
 
--- some job is pending at tick t, which is idle
-pub record IsIdleTick (run : Run) (t : ℕ) : Type 0 where
-  pub job : ℕ
-  pub broken : IsIdleBroken run t job
-
--- some job is inside a segment at tick t, which is supplied and does not run it
-pub record IsSegmentTick (m : CutMeaning) (sheet : SheetParts) (run : Run) (t : ℕ) : Type 0 where
+-- some job passes the test at tick t
+pub record IsTick (test : ℕ → ℕ → Bool) (run : Run) (t : ℕ) : Type 0 where
   pub job : ℕ
   pub listed : job < length run.jobs
-  pub broken : IsSegmentBroken m sheet run t job
-
--- some job is pending at tick t and more urgent than the one that runs there and can be cut
-pub record IsPriorityTick (p : PolicyMeaning) (m : CutMeaning) (sheet : SheetParts) (run : Run) (t : ℕ) : Type 0 where
-  pub job : ℕ
-  pub broken : IsPriorityBroken p m sheet run t job
+  pub passes : test t job ≡ true
 
 -- the service of every job before tick t
 pub record IsServed (run : Run) (t : ℕ) (served : List ℕ) : Type 0 where

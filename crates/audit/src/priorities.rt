@@ -1,14 +1,13 @@
 //! The rule on priorities.
 ghost use Rattle.std.specs.Prelude.{◌≡◌, ◌<◌, ◌↔◌, ℕ, IfOk, IsTrue, length};
 ghost use Rattle.lists.specs.Searches.{IsFirstBelow};
-ghost use Rattle.policy.specs.PolicyLaws.{IsOf};
 ghost use Rattle.preemption.specs.CutLaws.{Serves};
 ghost use Rattle.run_model.specs.Runs.{job_at, tick_at};
 ghost use Rattle.run_model.specs.declared.run.Tick.TheVariants.{Runs};
-ghost use Rattle.schedule_laws.specs.Tests.{AreOf};
+ghost use Rattle.schedule_laws.specs.Tests.{AreOf, is_priority_broken as is_priority_broken_by};
 ghost use Rattle.audit.specs.CutSums.{AreSums};
 ghost use Rattle.audit.specs.Fronts.{IsMoreUrgent, IsProgress, IsListed, IsOvertaken};
-ghost use Rattle.audit.specs.Relations.{IsSmall, IsPriorityTick};
+ghost use Rattle.audit.specs.Relations.{IsSmall, IsTick};
 
 use crate::cuts::can_cut_job;
 use crate::progress::Progress;
@@ -18,7 +17,7 @@ use run_model::{Run, Tick};
 use std::alloc::{AllocError, Global};
 use task_sheet::Sheet;
 
-/// Whether the job, if there is one, has arrived by tick `t` and is more urgent than the key.
+/// Whether the job, if there is one, has been released by tick `t` and is more urgent than the key.
 fn is_more_urgent<P: Policy>(sheet: &Sheet, run: &Run, key: Key, job: Option<u32>, t: u64) -> bool
     requires small { IsSmall run.now }
     requires tasks { AreOf sheet.now run.now }
@@ -28,7 +27,7 @@ fn is_more_urgent<P: Policy>(sheet: &Sheet, run: &Run, key: Key, job: Option<u32
     match job {
         Some(k) => {
             let job = &run.jobs.as_slice()[k as usize];
-            job.arrival <= t && !key.is_at_most(P::key(sheet, job))
+            job.release <= t && !key.is_at_most(P::key(sheet, job))
         }
         None => false,
     }
@@ -72,7 +71,7 @@ fn is_priority_broken<P: Policy, M: Tabled>(
     requires served { Serves M.cuts sheet.now }
     requires sums { AreSums run.now sums.now }
     requires progress { IsProgress run.now t progress.old }
-    ensures broken { IsTrue result ↔ IsPriorityTick P.meaning M.cuts sheet.now run.now t }
+    ensures broken { IsTrue result ↔ IsTick (is_priority_broken_by P.meaning M.cuts sheet.now run.now) run.now t }
     ensures progress { IsProgress run.now t progress.new }
 {
     let Tick::Runs(k) = run.ticks.as_slice()[t as usize] else {
@@ -94,7 +93,7 @@ pub fn priority_tick<P: Policy, M: Tabled>(
     requires tasks { AreOf sheet.now run.now }
     requires served { Serves M.cuts sheet.now }
     requires sums { AreSums run.now sums.now }
-    ensures { IfOk result (IsFirstBelow (IsPriorityTick P.meaning M.cuts sheet.now run.now) (length run.now.ticks)) }
+    ensures { IfOk result (IsFirstBelow (IsTick (is_priority_broken_by P.meaning M.cuts sheet.now run.now) run.now) (length run.now.ticks)) }
 {
     let mut progress = Progress::new(alloc, run, sheet.len())?;
     for t in 0..run.ticks.len() as u64 {

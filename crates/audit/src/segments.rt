@@ -2,13 +2,12 @@
 ghost use Rattle.std.specs.Prelude.{◌≡◌, ◌+◌, ◌<◌, ◌↔◌, IfOk, IsTrue, cond, length, None, Some};
 ghost use Rattle.lists.specs.Searches.{IsFirstBelow};
 ghost use Rattle.preemption.specs.CutLaws.{Serves};
-ghost use Rattle.policy.specs.PolicyLaws.{IsOf};
 ghost use Rattle.run_model.specs.Runs.{job_at, tick_at};
 ghost use Rattle.schedule_laws.specs.Compliance.{can_cut};
-ghost use Rattle.schedule_laws.specs.Tests.{AreOf};
+ghost use Rattle.schedule_laws.specs.Tests.{AreOf, is_segment_broken};
 ghost use Rattle.audit.specs.CutSums.{AreSums};
 ghost use Rattle.audit.specs.Fronts.{Leaves, OnlyFails};
-ghost use Rattle.audit.specs.Relations.{IsSmall, IsServed, AreFitting, IsSegmentTick};
+ghost use Rattle.audit.specs.Relations.{IsSmall, IsServed, AreFitting, IsTick};
 
 use crate::cuts::can_cut_job;
 use crate::services::{no_service, serve};
@@ -68,7 +67,7 @@ pub fn segment_tick<M: Tabled>(
     requires fit { AreFitting M.cuts sheet.now run.now }
     requires served { Serves M.cuts sheet.now }
     requires sums { AreSums run.now sums.now }
-    ensures { IfOk result (IsFirstBelow (IsSegmentTick M.cuts sheet.now run.now) (length run.now.ticks)) }
+    ensures { IfOk result (IsFirstBelow (IsTick (is_segment_broken M.cuts sheet.now run.now) run.now) (length run.now.ticks)) }
 {
     let _valid = sheet.len();
     let mut served = no_service(alloc, run)?;

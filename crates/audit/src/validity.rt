@@ -1,10 +1,10 @@
 //! The rule on what runs.
-ghost use Rattle.std.specs.Prelude.{◌≡◌, ◌<◌, ◌↔◌, ℕ, IfOk, IsTrue, length};
+ghost use Rattle.std.specs.Prelude.{◌≡◌, ◌<◌, ◌↔◌, ℕ, IfOk, IsTrue, length, false};
 ghost use Rattle.lists.specs.Searches.{IsFirstBelow};
 ghost use Rattle.run_model.specs.Runs.{tick_at};
 ghost use Rattle.run_model.specs.declared.run.Tick.TheVariants.{Runs};
 ghost use Rattle.schedule_laws.specs.Compliance.{MayRun};
-ghost use Rattle.schedule_laws.specs.Tests.{AreOf, IsValidAt};
+ghost use Rattle.schedule_laws.specs.Tests.{AreOf, is_valid_at};
 ghost use Rattle.audit.specs.Fronts.{IsEarlier, IsProgress, IsListed};
 ghost use Rattle.audit.specs.Relations.{IsSmall};
 
@@ -33,7 +33,7 @@ fn may_run(run: &Run, progress: &mut Progress, k: u32, t: u64) -> bool
 {
     let job = &run.jobs.as_slice()[k as usize];
     let front = progress.front(run, job.task as usize);
-    job.arrival <= t
+    job.release <= t
         && progress.served[k as usize] < job.cost
         && !is_earlier(run, front, job.arrival)
 }
@@ -43,7 +43,7 @@ fn is_valid(run: &Run, progress: &mut Progress, t: u64) -> bool
     requires small { IsSmall run.now }
     requires tick { t < length run.now.ticks }
     requires progress { IsProgress run.now t progress.old }
-    ensures valid { IsTrue result ↔ IsValidAt run.now t }
+    ensures valid { result ≡ is_valid_at run.now t }
     ensures progress { IsProgress run.now t progress.new }
 {
     match run.ticks.as_slice()[t as usize] {
@@ -56,7 +56,7 @@ fn is_valid(run: &Run, progress: &mut Progress, t: u64) -> bool
 pub fn invalid_tick(alloc: Global, sheet: &Sheet, run: &Run) -> Result<Option<u64>, AllocError>
     requires small { IsSmall run.now }
     requires tasks { AreOf sheet.now run.now }
-    ensures { IfOk result (IsFirstBelow (λ t. IsValidAt run.now t → ⊥) (length run.now.ticks)) }
+    ensures { IfOk result (IsFirstBelow (λ t. is_valid_at run.now t ≡ false) (length run.now.ticks)) }
 {
     let mut progress = Progress::new(alloc, run, sheet.len())?;
     for t in 0..run.ticks.len() as u64 {

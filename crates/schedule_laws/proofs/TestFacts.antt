@@ -134,6 +134,11 @@ may_be_to run t (Runs k) h = may_run_to run k t (h k refl)
 pub valid_to : (run : Run) (t : ℕ) → ((k : ℕ) → tick_at run t ≡ Runs k → MayRun run k t) → is_valid_at run t ≡ true
 valid_to run t h = may_be_to run t (tick_at run t) h
 
+-- a test of what runs at t is the definition's
+pub valid_by : (run : Run) (t k : ℕ) (b : Bool) → tick_at run t ≡ Runs k → ((b ≡ true) ↔ MayRun run k t) → b ≡ is_valid_at run t
+valid_by run t k true e h = sym (ap (may_be_at run t) e ∙ may_run_to run k t (h.0 refl))
+valid_by run t k false e h = sym (false_from_ne_true (is_valid_at run t) (λ v. true≢false (sym (h.1 (valid_from run t k v e)))))
+
 -- what a valid tick runs is a job of the list
 pub valid_named : (run : Run) (t : ℕ) → is_valid_at run t ≡ true → (k : ℕ) → tick_at run t ≡ Runs k → k < length run.jobs
 valid_named run t valid k e = (valid_from run t k valid e).pending.listed

@@ -9,7 +9,7 @@ loop-o-preserved c = record {
   progress = c.front.ensures.progress c.args.t c.loop-o.invariant.progress;
   tasks = c.front.ensures.tasks ∙ c.loop-o.invariant.tasks;
   quiet = none_of_more (λ k. IsPending c.args.run.now k c.args.t) c.args.run.now c.loop-o.o c.loop-o.invariant.quiet
-      (none_waits c.args.run.now c.args.t c.loop-o.progress.served.items c.loop-o.o c.front.result c.loop-o.invariant.progress.counted c.front.ensures.front (λ late. both_ways c.has_arrived.result c.if-has_arrived.false (c.has_arrived.ensures.1 late)));
+      (none_waits c.args.run.now c.requires.small c.args.t c.loop-o.progress.served.items c.loop-o.o c.front.result c.loop-o.invariant.progress.counted c.front.ensures.front (λ late. both_ways c.is_released.result c.if-is_released.false (c.is_released.ensures.1 late)));
 }
 
 pub returns : goal.returns
@@ -21,5 +21,5 @@ returns c = record {
   progress = c.loop-o.invariant.progress;
 }
 
-pub returns-then-has_arrived-clause-progress : goal.returns-then-has_arrived-clause-progress
-returns-then-has_arrived-clause-progress c = c.front.ensures.progress c.args.t c.loop-o.invariant.progress
+pub returns-then-is_released-clause-progress : goal.returns-then-is_released-clause-progress
+returns-then-is_released-clause-progress c = c.front.ensures.progress c.args.t c.loop-o.invariant.progress

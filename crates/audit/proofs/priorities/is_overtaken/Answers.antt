@@ -14,7 +14,7 @@ loop-o-preserved g c =
       progress = c.front-front.ensures.progress c.args.t c.loop-o.invariant.progress;
       tasks = c.front-front.ensures.tasks ∙ c.loop-o.invariant.tasks;
       quiet = none_of_more (λ k. IsPending run k c.args.t × (key_le c.args.key (p.key sheet (job_at run k)) ≡ false)) run c.loop-o.o c.loop-o.invariant.quiet
-          (λ k task w. none_urgent p sheet run c.args.key c.args.t c.loop-o.progress.served.items c.loop-o.o c.front-front.result (g.met.P.Policy.lawful sheet c.len-valid.ensures.valid) c.requires.tasks c.loop-o.invariant.progress.counted c.front-front.ensures.front
+          (λ k task w. none_urgent p sheet run c.requires.small c.args.key c.args.t c.loop-o.progress.served.items c.loop-o.o c.front-front.result (g.met.P.Policy.lawful sheet c.len-valid.ensures.valid) c.requires.tasks c.loop-o.invariant.progress.counted c.front-front.ensures.front
           (λ late. both_ways c.is_more_urgent.result c.if-is_more_urgent.false (c.is_more_urgent.ensures.1 late)) k task w.0 w.1);
     }
 

@@ -3,6 +3,7 @@ use Rattle.std.proofs.Math.ListN.{set}
 use Rattle.task_sheet.specs.declared.tasks.Job.{Job}
 use Rattle.run_model.specs.Runs.{job_at, tick_at, service_of}
 use Rattle.run_model.specs.declared.run.Tick.TheVariants.{Runs}
+use Rattle.schedule_laws.proofs.TestFacts.{valid_from}
 use Rattle.audit.specs.Relations.{AreResponses}
 use Rattle.audit.proofs.ReadFacts.{job_read}
 use Rattle.audit.proofs.ResponseFacts.{responses_same, responses_wait, responses_finish}
@@ -11,9 +12,9 @@ use Rattle.audit.proofs.seen.note_response.Goals as goal
 pub overflow_sub-responses : goal.overflow_sub-responses
 overflow_sub-responses c =
     let runs : tick_at c.args.run.now c.args.t ≡ Runs c.in-Runs.k = cc in
-    let pending = ((c.requires.valid c.args.t c.requires.tick).may_run c.in-Runs.k runs).pending in
+    let pending = (valid_from c.args.run.now c.args.t c.in-Runs.k (c.requires.valid c.args.t c.requires.tick) runs).pending in
     let job : c.index-as_slice-k.result ≡ job_at c.args.run.now c.in-Runs.k = job_read c.args.run.now c.as_slice-in-Runs.result.now c.in-Runs.k c.index-as_slice-k.result pending.listed c.as_slice-in-Runs.ensures c.index-as_slice-k.is in
-    omega (arith, pending.arrived, ap (λ (j : Job). j.arrival) job)
+    omega (arith, pending.released, c.requires.small.released c.in-Runs.k pending.listed, ap (λ (j : Job). j.arrival) job)
 
 pub returns-then-served-k : goal.returns-then-served-k
 returns-then-served-k c =

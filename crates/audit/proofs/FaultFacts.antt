@@ -16,7 +16,7 @@ use Rattle.windows.specs.Crowds.{IsNoLater, IsFirstCrowded}
 use Rattle.audit.specs.declared.verdict.Fault.{Fault}
 use Rattle.audit.specs.declared.verdict.Rule.TheVariants as rule
 use Rattle.audit.specs.Faults.{fault_at, shortage, invalid_at, last_arrival, invalid_in, crowded_in, short_in}
-use Rattle.audit.specs.Relations.{AreValid}
+use Rattle.audit.specs.Premises.{AreValid}
 use Rattle.audit.proofs.SearchFacts.{all_hold, each_holds, first_fails, found_none, none_found, found_some}
 
 -- valid ticks
@@ -80,9 +80,9 @@ crowded_some sheet run k first =
     found_some rule.Curve (crowd_at sheet run) (last_arrival run + 1) (length run.jobs) (job_at run k).arrival k (arrives_within run k first.0) first.0 (crowd_to sheet run k first.1)
     (λ s n b c. false_from_ne_true (crowd_at sheet run s n) (λ h. let w = crowd_from sheet run s n h in omega (arith, w.0, no_earlier run k n (first.2 n c w.1))))
     (λ n b. false_from_ne_true (crowd_at sheet run (job_at run k).arrival n) (λ h.
-        let listed = first.0 in
-        let w = crowd_from sheet run (job_at run k).arrival n h in
-        omega (arith, no_less run k n (first.2 n (omega arith) w.1) w.0)))
+    let listed = first.0 in
+    let w = crowd_from sheet run (job_at run k).arrival n h in
+    omega (arith, no_less run k n (first.2 n (omega arith) w.1) w.0)))
 
 pub uncrowded : (sheet : SheetParts) (run : Run) → IsFirstCrowded sheet run None → AreUncrowded sheet run
 uncrowded sheet run none k b = false_from_ne_true (is_crowded sheet run k) (none k b)

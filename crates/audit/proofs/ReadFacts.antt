@@ -1,3 +1,4 @@
+-- What the code reads of a run.
 use Rattle.std.proofs.Common.{◌≡◌, ℕ, ◌<◌, ◌≤◌, Bool, List, length, get_or, ◌∙◌, ap, subst, inl, inr}
 use Rattle.std.proofs.lemmas.List.{get_or_read, get_or_past}
 use Rattle.std.proofs.lemmas.Bool.{cases_lt}
@@ -13,7 +14,7 @@ use Rattle.run_model.specs.Runs.{job_at, tick_at, service_of, no_job}
 use Rattle.schedule_laws.specs.Compliance.{can_cut}
 use Rattle.run_model.proofs.ServiceFacts.{not_off}
 use Rattle.run_text.specs.Text.{IsWithinLimits, IsJob, IsTickOf}
-use Rattle.audit.specs.Relations.{IsSmall}
+use Rattle.audit.specs.Premises.{IsSmall}
 
 -- a job as it was read
 pub job_read : (run : Run) (jobs : List Job) (k : ℕ) (j : Job) → k < length run.jobs → jobs ≡ run.jobs → j ≡ get_or jobs k j → j ≡ job_at run k

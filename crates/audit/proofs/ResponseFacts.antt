@@ -1,3 +1,4 @@
+-- The response times of the jobs, one tick later, and what is seen of a task.
 use Rattle.std.proofs.Common.{◌≡◌, ◌≢◌, ℕ, suc, ◌+◌, ◌-◌, ◌<◌, ◌≤◌, ◌&&◌, Bool, true, false, not, cond, max, List, length, get_or, Option, Some, None, refl, sym, ◌∙◌, ap, subst, inl, inr, arith, add-one, replicate, leb}
 use Rattle.std.proofs.lemmas.Bool.{cases_eq, not_from_true, not_from_false, leb-true, leb-false, le-leb, eq-eqb, ne_eqb}
 use Rattle.std.proofs.lemmas.List.{get_or-set_same, get_or-set_other, length-set, length-replicate, get_or-replicate}
@@ -12,7 +13,8 @@ use Rattle.run_model.proofs.ServiceFacts.{service_none, step_cases, service_le, 
 use Rattle.schedule_laws.proofs.TestFacts.{valid_from}
 use Rattle.audit.specs.declared.verdict.Seen.{Seen}
 use Rattle.audit.specs.Responses.{since, done_before, response_of, is_of, seen_among}
-use Rattle.audit.specs.Relations.{ArePositive, AreValid, IsResponse, AreResponses, with_job}
+use Rattle.audit.specs.Premises.{ArePositive, AreValid}
+use Rattle.audit.specs.NotedResponses.{IsResponse, AreResponses, with_response}
 
 first_some : {F : Type 0} (a : Option F) (x : F) (later : Option F) → first_of (first_of a (Some x)) later ≡ first_of a (Some x)
 first_some (Some f) x later = refl
@@ -137,7 +139,7 @@ counted_as run i k own done worst p q r =
 max_zero : (n : ℕ) → max n 0 ≡ n
 max_zero n = omega arith
 
-more_of : (run : Run) (i k : ℕ) (r : Option ℕ) → (job_at run k).task ≡ i → IsResponse run (length run.ticks) k r → with_job (seen_among run i k) r ≡ seen_among run i (suc k)
+more_of : (run : Run) (i k : ℕ) (r : Option ℕ) → (job_at run k).task ≡ i → IsResponse run (length run.ticks) k r → with_response (seen_among run i k) r ≡ seen_among run i (suc k)
 more_of run i k None own h =
     sym (counted_as run i k true false 0 (eq-eqb (job_at run k).task i own) h (undone_response run k h) ∙ same_seen _ _ _ _ _ _ refl (omega arith) (max_zero (seen_among run i k).worst))
 more_of run i k (Some x) own h = sym (counted_as run i k true true x (eq-eqb (job_at run k).task i own) h.0 h.1)
@@ -147,7 +149,7 @@ other_of run i k ne =
     sym (counted_as run i k false (is_done run k (length run.ticks)) (response_of run k) (ne_eqb (job_at run k).task i ne) refl refl ∙ same_seen _ _ _ _ _ _ (omega arith) (omega arith) (max_zero (seen_among run i k).worst))
 
 -- a job of the task
-pub seen_more : (run : Run) (i k : ℕ) (r : Option ℕ) → (job_at run k).task ≡ i → IsResponse run (length run.ticks) k r → with_job (seen_among run i k) r ≡ seen_among run i (k + 1)
+pub seen_more : (run : Run) (i k : ℕ) (r : Option ℕ) → (job_at run k).task ≡ i → IsResponse run (length run.ticks) k r → with_response (seen_among run i k) r ≡ seen_among run i (k + 1)
 seen_more run i k r own h = more_of run i k r own h ∙ ap (seen_among run i) (sym (add-one k))
 
 -- a job of another task
@@ -158,6 +160,6 @@ pub seen_first : (run : Run) (i : ℕ) → seen_with 0 0 0 ≡ seen_among run i 
 unfolding seen_among
 seen_first run i = refl
 
-pub with_job_grows : (seen : Seen) (r : Option ℕ) → ((with_job seen r).jobs ≤ seen.jobs + 1) × ((with_job seen r).done ≤ seen.done + 1)
-with_job_grows seen None = (omega arith, omega arith)
-with_job_grows seen (Some x) = (omega arith, omega arith)
+pub with_response_grows : (seen : Seen) (r : Option ℕ) → ((with_response seen r).jobs ≤ seen.jobs + 1) × ((with_response seen r).done ≤ seen.done + 1)
+with_response_grows seen None = (omega arith, omega arith)
+with_response_grows seen (Some x) = (omega arith, omega arith)

@@ -8,7 +8,7 @@ use Rattle.run_model.specs.declared.run.Run.{Run}
 use Rattle.audit.specs.declared.verdict.Fault.{Fault}
 use Rattle.audit.specs.declared.verdict.Rule.{Rule}
 use Rattle.audit.specs.Faults.{fault_at, found_in}
-use Rattle.audit.specs.Relations.{IsTick}
+use Rattle.audit.specs.TickRules.{IsTick}
 
 -- a row of tests, and the first that fails
 module _ (test : ℕ → Bool) (f : ℕ → Fault) (n : ℕ) where

@@ -14,8 +14,8 @@ use Rattle.run_model.proofs.ServiceFacts.{service_none, step_cases, same_job}
 use Rattle.schedule_laws.specs.Compliance.{can_cut}
 use Rattle.schedule_laws.specs.Tests.{is_segment_broken}
 use Rattle.schedule_laws.proofs.TestFacts.{segment_from, segment_to}
-use Rattle.audit.specs.Relations.{AreFitting, IsTick}
-use Rattle.audit.specs.Fronts.{OnlyFails, Leaves}
+use Rattle.audit.specs.Premises.{AreFitting}
+use Rattle.audit.specs.TickRules.{IsTick, OnlyFails, Leaves}
 
 only_same : (test new : ℕ → Bool) (n : ℕ) (x : Option ℕ) → ((k : ℕ) → k < n → new k ≡ test k) → OnlyFails test n x → OnlyFails new n x
 only_same test new n None same h = λ k b. same k b ∙ h k b

@@ -1,3 +1,4 @@
+-- The service of the jobs, one tick later.
 use Rattle.std.proofs.Common.{◌≡◌, ◌≢◌, ℕ, suc, ◌+◌, ◌<◌, ◌≤◌, List, length, get_or, take, drop, ◌++◌, sym, ◌∙◌, ap, subst, inl, inr, arith, add-one, replicate}
 use Rattle.std.proofs.lemmas.Bool.{cases_eq}
 use Rattle.std.proofs.lemmas.List.{get_or-set_same, get_or-set_other, length-set, length-replicate, get_or-replicate, drop_all, append-nil}
@@ -7,7 +8,7 @@ use Rattle.run_model.specs.declared.run.Run.{Run}
 use Rattle.run_model.specs.declared.run.Tick.TheVariants.{Runs}
 use Rattle.run_model.specs.Runs.{tick_at, service_of}
 use Rattle.run_model.proofs.ServiceFacts.{service_none, step_cases, same_job}
-use Rattle.audit.specs.Relations.{IsServed}
+use Rattle.audit.specs.ServiceCounts.{IsServed}
 
 at_next : (run : Run) (k t x : ℕ) → x ≡ service_of run k (suc t) → x ≡ service_of run k (t + 1)
 at_next run k t x h = rw add-one h

@@ -15,7 +15,7 @@ use Rattle.schedule_laws.specs.Tests.{does_fit, is_idle_broken, is_segment_broke
 use Rattle.schedule_laws.proofs.TestFacts.{released_to}
 use Rattle.schedule_laws.proofs.ComplianceFacts.{complies, passes}
 use Rattle.audit.specs.declared.verdict.Fault.{Fault}
-use Rattle.audit.specs.Relations.{AreFitting, ArePositive}
+use Rattle.audit.specs.Premises.{AreFitting, ArePositive}
 use Rattle.audit.specs.declared.verdict.Rule.TheVariants as rule
 use Rattle.audit.specs.Faults.{first_broken, unfit, unfit_in, invalid_in, crowded_in, short_in, idle_in, segment_in, priority_in}
 use Rattle.audit.proofs.SearchFacts.{all_hold, each_holds, found_none, none_found}

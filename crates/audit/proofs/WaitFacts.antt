@@ -15,8 +15,10 @@ use Rattle.preemption.specs.CutMeaning.{CutMeaning}
 use Rattle.schedule_laws.specs.Compliance.{can_cut}
 use Rattle.schedule_laws.specs.Tests.{AreOf, is_idle_broken, is_priority_broken}
 use Rattle.schedule_laws.proofs.TestFacts.{idle_from, idle_to, priority_from, priority_to}
-use Rattle.audit.specs.Relations.{IsSmall, IsServed, IsTick}
-use Rattle.audit.specs.Fronts.{IsLeft, IsFront, IsListed, IsWaiting, IsOvertaken, HasRelease, IsMoreUrgent}
+use Rattle.audit.specs.Premises.{IsSmall}
+use Rattle.audit.specs.ServiceCounts.{IsServed}
+use Rattle.audit.specs.TickRules.{IsTick, IsListed, IsWaiting, IsOvertaken, HasRelease, IsMoreUrgent}
+use Rattle.audit.specs.UndoneJobs.{IsLeft, IsFront}
 
 -- what is pending is left
 waits_left : (run : Run) (t : ℕ) (served : List ℕ) (o k : ℕ) → IsServed run t served → (job_at run k).task ≡ o → IsPending run k t → IsLeft run served o k

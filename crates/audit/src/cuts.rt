@@ -5,7 +5,7 @@ ghost use Rattle.preemption.specs.CutLaws.{Serves};
 ghost use Rattle.run_model.specs.Runs.{job_at};
 ghost use Rattle.schedule_laws.specs.Tests.{AreOf};
 ghost use Rattle.audit.specs.CutSums.{sums_from, AreSums};
-ghost use Rattle.audit.specs.Relations.{AreFitting};
+ghost use Rattle.audit.specs.Premises.{AreFitting};
 
 use preemption::Tabled;
 use run_model::Run;

@@ -4,12 +4,12 @@ ghost use Rattle.supply.specs.Promises.{sbf_of};
 ghost use Rattle.preemption.specs.CutLaws.{Serves};
 ghost use Rattle.run_text.specs.Text.{IsWithinLimits};
 ghost use Rattle.audit.specs.Faults.{first_broken as first_broken_of};
-ghost use Rattle.audit.specs.Relations.{IsSmall};
+ghost use Rattle.audit.specs.Premises.{IsSmall};
 ghost use Rattle.audit.specs.Verdicts.{verdict_of, TellsCompliance};
 
 use crate::cuts::cut_sums;
 use crate::jobs::{first_crowd, first_unfit};
-use crate::seen::seen_tasks;
+use crate::responses::seen_tasks;
 use crate::ticks::{first_idling, first_invalid, first_overtaken, first_segment, first_shortage};
 use crate::verdict::{AuditVerdict, Fault};
 use lists::Items;

@@ -6,11 +6,12 @@ ghost use Rattle.run_model.specs.Runs.{job_at, tick_at};
 ghost use Rattle.schedule_laws.specs.Compliance.{can_cut};
 ghost use Rattle.schedule_laws.specs.Tests.{AreOf, is_segment_broken};
 ghost use Rattle.audit.specs.CutSums.{AreSums};
-ghost use Rattle.audit.specs.Fronts.{Leaves, OnlyFails};
-ghost use Rattle.audit.specs.Relations.{IsSmall, IsServed, AreFitting, IsTick};
+ghost use Rattle.audit.specs.TickRules.{Leaves, OnlyFails, IsTick};
+ghost use Rattle.audit.specs.Premises.{IsSmall, AreFitting};
+ghost use Rattle.audit.specs.ServiceCounts.{IsServed};
 
 use crate::cuts::can_cut_job;
-use crate::services::{no_service, serve};
+use crate::service_counts::{no_service, serve};
 use preemption::Tabled;
 use run_model::{Run, Tick};
 use std::alloc::{AllocError, Global};

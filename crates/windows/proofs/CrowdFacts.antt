@@ -1,3 +1,4 @@
+-- The first crowded job, from the first crowded tick of each task.
 use Rattle.std.proofs.Common.{◌≡◌, ℕ, suc, ◌+◌, ◌-◌, ◌==◌, ◌<◌, ◌≤◌, ◌⊎◌, ◌&&◌, ◌||◌, Bool, true, false, cond, List, [], ◌∷◌, length, get_or, count_by, map, filter, Option, Some, None, refl, sym, ◌∙◌, ap, subst, inl, inr, arith, leb, ltb}
 use Rattle.std.specs.List.Sorted.{IsPermutation, IsNonDecreasing}
 use Rattle.std.proofs.lemmas.Bool.{cases_lt, cases_Bool}

@@ -1,3 +1,4 @@
+-- Windows that begin with an arrival less than a horizon ago decide how many jobs may arrive.
 use Rattle.std.proofs.Common.{◌≡◌, ℕ, zero, suc, ◌+◌, ◌-◌, ◌<◌, ◌≤◌, ◌⊎◌, false, List, length, get_or, min, sym, ap, subst, inl, inr, arith, leb}
 use Rattle.std.proofs.lemmas.Bool.{cases_lt, lt-leb, le-leb}
 use Rattle.lists.proofs.FirstFacts.{all_from, all_broken}

@@ -1,3 +1,4 @@
+-- The value of a curve, from its last step up to a length.
 use Rattle.std.proofs.Common.{◌≡◌, ℕ, zero, suc, ◌+◌, ◌-◌, ◌*◌, ◌/◌, ◌%◌, ◌<◌, ◌≤◌, Bool, cond, List, [], ◌∷◌, length, ◌∙◌, ap, arith, leb, add-one}
 use Rattle.std.proofs.lemmas.Bool.{le-leb}
 use Rattle.std.proofs.Math.Nat.{add-mod_right, add-div_right, div_self, mod_self}

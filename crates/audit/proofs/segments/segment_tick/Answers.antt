@@ -2,7 +2,7 @@ use Rattle.std.proofs.Common.{List, get_or, sym, subst, arith, below_more}
 use Rattle.std.proofs.lemmas.Bool.{both_ways}
 use Rattle.run_model.specs.declared.run.Tick.{Tick}
 use Rattle.run_model.specs.declared.run.Tick.TheVariants.{Off}
-use Rattle.audit.specs.Fronts.{Leaves}
+use Rattle.audit.specs.TickRules.{Leaves}
 use Rattle.audit.proofs.ServedFacts.{served_written}
 use Rattle.audit.proofs.SegmentFacts.{left_kept, left_broken, inside_none}
 use Rattle.audit.proofs.segments.segment_tick.Goals as goal

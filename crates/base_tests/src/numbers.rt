@@ -23,7 +23,10 @@ fn numbers_are_written(rt: HostRuntime) {
 fn wide_numbers_are_written(rt: HostRuntime) {
     let cases = [
         (1 << 64, b"18446744073709551616".as_slice()),
-        (u128::MAX, b"340282366920938463463374607431768211455".as_slice()),
+        (
+            u128::MAX,
+            b"340282366920938463463374607431768211455".as_slice(),
+        ),
     ];
     for (n, text) in cases {
         let mut buf = [0u8; 39];

@@ -127,7 +127,7 @@ module _ (sheet_name : List ℕ) (which : Source) (name : List ℕ) (Ends : Shee
       (middle : ShelfAt) (gave : Result SheetParts Refusal) → ReadsSheet sheet_name before middle gave → ReadsNext which name Ends gave middle now (Err refusal) → MayTwo
   may_two_by may middle (Ok parts) sheet next =
       let is : IsSheetOr which sheet_name before.files which =
-          inr (refl, if_told_map before.files (λ x. sheet_in sheet_name x ≡ Ok parts) _ (λ x e. rw e refl) (sheet_found sheet_name before middle (Ok parts) sheet)) in
+      inr (refl, if_told_map before.files (λ x. sheet_in sheet_name x ≡ Ok parts) _ (λ x e. rw e refl) (sheet_found sheet_name before middle (Ok parts) sheet)) in
       may_reads (IsSheetOr which sheet_name before.files) IsNoRefusal which name (Ends parts) middle now refusal is (λ bytes ends. may parts bytes is ends) next
   may_two_by may middle (Err other) sheet next =
       let same : other ≡ refusal = cc (next.1) in

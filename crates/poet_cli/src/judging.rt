@@ -42,12 +42,7 @@ fn verdict(
 }
 
 /// How `check` ends, over a sheet and the bytes of a certificate.
-fn judged(
-    alloc: Global,
-    sheet: &Sheet,
-    deadlines: bool,
-    bytes: &[u8],
-) -> Result<Printed, Refusal>
+fn judged(alloc: Global, sheet: &Sheet, deadlines: bool, bytes: &[u8]) -> Result<Printed, Refusal>
     ensures { CheckDoes deadlines sheet.now bytes.now result }
 {
     match verdict(alloc, sheet, deadlines, bytes) {

@@ -61,12 +61,7 @@ fn report_on(alloc: Global, sheet: &Sheet, cert: &Cert, form: Form) -> Result<Pr
 }
 
 /// How `report` ends, over a sheet and the bytes of a certificate.
-fn reported(
-    alloc: Global,
-    sheet: &Sheet,
-    form: Form,
-    bytes: &[u8],
-) -> Result<Printed, Refusal>
+fn reported(alloc: Global, sheet: &Sheet, form: Form, bytes: &[u8]) -> Result<Printed, Refusal>
     ensures { ReportDoes form sheet.now bytes.now result }
 {
     let cert = match read_cert(alloc, bytes) {

@@ -2,7 +2,7 @@
 ghost use Rattle.std.specs.Prelude.{◌≡◌, ◌+◌, ◌*◌, ◌%◌, ◌≤◌, ℕ, IfOk};
 ghost use Rattle.curve.specs.Curves.{alpha_of, periodic as periodic_of, IsRise};
 ghost use Rattle.curve.specs.Stairs.{IsSplit, IsStair};
-ghost use Rattle.curve.specs.Validity.{IsCurve, check_of};
+ghost use Rattle.curve.specs.Validity.{IsCurve, prefix_check_of};
 ghost use Rattle.lists.specs.Searches.{IsLeastTo};
 
 use crate::checking::{CurveRefusal, are_in_range, do_rise, ends_by, starts_at_one};
@@ -61,7 +61,7 @@ impl Model for Prefix {
 impl Prefix {
     /// The prefix of these parts, or the first test that they fail.
     pub fn check(horizon: u64, steps: Vec<Step>) -> Result<Prefix, CurveRefusal>
-        ensures checked { result ≡ check_of horizon steps.items }
+        ensures checked { result ≡ prefix_check_of horizon steps.items }
         ensures valid { IfOk result IsCurve }
     {
         if horizon == 0 || horizon > 1_000_000_000 {

@@ -7,6 +7,7 @@ use Rattle.curve.specs.Curves.{alpha_of}
 use Rattle.curve.proofs.CurveFacts.{alpha_mono}
 use Rattle.task_sheet.specs.SheetParts.{SheetParts}
 use Rattle.task_sheet.specs.Sheets.{task_at, IsValidSheet}
+use Rattle.task_sheet.proofs.RuleFacts.{or_parts}
 use Rattle.policy.specs.declared.keys.Cap.{Cap}
 use Rattle.policy.specs.declared.keys.Cap.TheVariants.{Nothing, At, All}
 use Rattle.policy.specs.Keys.{not_below_zero}
@@ -40,10 +41,6 @@ same_true p sheet i a b h = all_from (λ o. compared_of p sheet i a o == compare
 not_point : (b : Bool) → not b ≡ false → b ≡ true
 not_point true h = refl
 not_point false h = cc
-
-or_parts : (a b : Bool) → (a || b) ≡ false → (a ≡ false) × (b ≡ false)
-or_parts true b h = cc
-or_parts false b h = (refl, h)
 
 -- an offset that is no point is the same as the one before
 pub same_before : (p : PolicyMeaning) (sheet : SheetParts) (i a : ℕ) → is_point p sheet i a ≡ false → IsSame p sheet i (a - 1) a

@@ -9,7 +9,7 @@ use Rattle.toml.specs.View.{items_of}
 use Rattle.lists.specs.Ranges.{is_between}
 use Rattle.curve.specs.declared.prefix.Step.{Step}
 use Rattle.curve.specs.CurveValue.{Curve}
-use Rattle.curve.specs.Validity.{starts_at_one, rise_from, last_time, check_of as curve_check, StartsAtOne, RiseFrom, IsCurve}
+use Rattle.curve.specs.Validity.{starts_at_one, rise_from, last_time, prefix_check_of as curve_check, StartsAtOne, RiseFrom, IsCurve}
 use Rattle.task_sheet.specs.declared.tasks.PolicyKind.{PolicyKind}
 use Rattle.task_sheet.specs.declared.tasks.PolicyKind.TheVariants.{Fp, Edf, Fifo}
 use Rattle.task_sheet.specs.declared.tasks.SupplySpec.{SupplySpec}

@@ -5,7 +5,7 @@ use Rattle.curve.specs.declared.checking.CurveRefusal.{CurveRefusal}
 use Rattle.curve.specs.declared.checking.CurveRefusal.TheVariants.{Horizon, Limit, First, Order as Falls, Past}
 use Rattle.curve.specs.CurveValue.{Curve}
 use Rattle.curve.specs.Curves.{periodic}
-use Rattle.curve.specs.Validity.{check_of}
+use Rattle.curve.specs.Validity.{prefix_check_of}
 use Rattle.task_sheet.specs.declared.refusal.Place.{Place}
 use Rattle.task_sheet.specs.declared.refusal.Place.TheVariants as places
 use Rattle.task_sheet.specs.declared.refusal.Field.TheVariants as fields
@@ -41,7 +41,7 @@ curve_or_refusal place (Err e) = Err (curve_refusal place e)
 abbrev pub steps_rule : Place → ℕ → Data → Result Curve SheetRefusal
 steps_rule place horizon d =
     present (all_in step_of d) (Kind place fields.CurveSteps)
-    >>= (λ steps. curve_or_refusal place (check_of horizon steps))
+    >>= (λ steps. curve_or_refusal place (prefix_check_of horizon steps))
 
 -- the keys of a curve
 abbrev pub curve_keys : List (List ℕ)

@@ -7,9 +7,9 @@ abbrev pub Fails : {Y : Type 0} → SheetRefusal → Result Y SheetRefusal → T
 Fails e read = e ≢ Memory → read ≡ Err e
 
 -- what was read, seen by view, is what the definition reads, or memory ran out
-abbrev pub Gives : {X Y : Type 0} → (X → Y) → Result X SheetRefusal → Result Y SheetRefusal → Type 0
-Gives view (Ok x) read = read ≡ Ok (view x)
-Gives view (Err e) read = Fails e read
+abbrev pub ReadsAs : {X Y : Type 0} → (X → Y) → Result X SheetRefusal → Result Y SheetRefusal → Type 0
+ReadsAs view (Ok x) read = read ≡ Ok (view x)
+ReadsAs view (Err e) read = Fails e read
 
 -- a result with its value seen by view
 abbrev pub seen : {X Y : Type 0} → (X → Y) → Result X SheetRefusal → Result Y SheetRefusal

@@ -2,8 +2,8 @@
 ghost use Rattle.std.specs.Prelude.{◌≡◌, IfOk, option_map, codes};
 ghost use Rattle.toml.specs.Data.{array, get};
 ghost use Rattle.toml.specs.View.{view, items_view};
-ghost use Rattle.curve.specs.Validity.{IsCurve, check_of};
-ghost use Rattle.sheet_text.specs.Readings.{Gives};
+ghost use Rattle.curve.specs.Validity.{IsCurve, prefix_check_of};
+ghost use Rattle.sheet_text.specs.Readings.{ReadsAs};
 ghost use Rattle.sheet_text.specs.Documents.{all_of, all_in};
 ghost use Rattle.sheet_text.specs.CurveRows.{step_from as step_from_of, step_of as step_of_value, curve_refusal as refusal_of, curve_or_refusal, steps_rule, curve_rule, period_rule, arrivals_rule};
 
@@ -88,7 +88,7 @@ fn curve_refusal(place: Place, refusal: CurveRefusal) -> SheetRefusal
 }
 
 fn curve_from(place: Place, horizon: u64, steps: Vec<Step>) -> Result<Prefix, SheetRefusal>
-    ensures gives { result ≡ curve_or_refusal place (check_of horizon steps.items) }
+    ensures gives { result ≡ curve_or_refusal place (prefix_check_of horizon steps.items) }
     ensures valid { IfOk result IsCurve }
 {
     match Prefix::check(horizon, steps) {
@@ -103,7 +103,7 @@ fn with_steps(
     horizon: u64,
     steps: &Value,
 ) -> Result<Prefix, SheetRefusal>
-    ensures gives { Gives (λ c. c) result (steps_rule place horizon (view steps.now)) }
+    ensures gives { ReadsAs (λ c. c) result (steps_rule place horizon (view steps.now)) }
     ensures valid { IfOk result IsCurve }
 {
     let Some(steps) = steps_in(alloc, steps)? else {
@@ -117,7 +117,7 @@ fn with_steps(
 
 #[tactic(auto, unfolding(crate::specs::CurveRows::curve_rule))]
 fn curve_of(alloc: Global, place: Place, value: &Value) -> Result<Prefix, SheetRefusal>
-    ensures gives { Gives (λ c. c) result (curve_rule place (view value.now)) }
+    ensures gives { ReadsAs (λ c. c) result (curve_rule place (view value.now)) }
     ensures valid { IfOk result IsCurve }
 {
     check_table(value, place, Field::Curve)?;
@@ -133,7 +133,7 @@ fn curve_of(alloc: Global, place: Place, value: &Value) -> Result<Prefix, SheetR
 
 /// One job in each period.
 fn periodic(alloc: Global, place: Place, value: &Value) -> Result<Prefix, SheetRefusal>
-    ensures gives { Gives (λ c. c) result (period_rule place (view value.now)) }
+    ensures gives { ReadsAs (λ c. c) result (period_rule place (view value.now)) }
     ensures valid { IfOk result IsCurve }
 {
     let period = whole(value, place, Field::Period, 1, GREATEST)?;
@@ -142,7 +142,7 @@ fn periodic(alloc: Global, place: Place, value: &Value) -> Result<Prefix, SheetR
 
 /// The curve of task `n`, which has a period or a curve, and not both.
 pub fn arrivals(alloc: Global, n: u32, task: &Value) -> Result<Prefix, SheetRefusal>
-    ensures gives { Gives (λ c. c) result (arrivals_rule n
+    ensures gives { ReadsAs (λ c. c) result (arrivals_rule n
         (get (codes "period") (view task.now)) (get (codes "curve") (view task.now))) }
     ensures valid { IfOk result IsCurve }
 {

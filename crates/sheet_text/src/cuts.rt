@@ -3,7 +3,7 @@ ghost use Rattle.std.specs.Prelude.{◌≡◌, Ok, IfOk, option_map, codes};
 ghost use Rattle.toml.specs.Data.{get};
 ghost use Rattle.toml.specs.View.{view};
 ghost use Rattle.task_sheet.specs.Rules.{cut_rule};
-ghost use Rattle.sheet_text.specs.Readings.{Gives};
+ghost use Rattle.sheet_text.specs.Readings.{ReadsAs};
 ghost use Rattle.sheet_text.specs.CutRows.{word_rule, parts_rule, segmented_rule, preemption_rule};
 
 use crate::document::check_keys;
@@ -27,7 +27,7 @@ fn cut_named(place: Place, word: &str) -> Result<Cut, SheetRefusal>
 }
 
 fn fixed_cut(alloc: Global, place: Place, fixed: &Value) -> Result<Cut, SheetRefusal>
-    ensures { Gives (λ c. c) result (parts_rule place (Some (view fixed.now)) None) }
+    ensures { ReadsAs (λ c. c) result (parts_rule place (Some (view fixed.now)) None) }
 {
     match numbers(alloc, fixed)? {
         Some(segments) => Ok(Cut::Fixed(Items::new(segments))),
@@ -52,7 +52,7 @@ fn floating_cut(place: Place, floating: &Value) -> Result<Cut, SheetRefusal>
 
 /// Exactly one of the two kinds of segments.
 fn cut_of_parts(alloc: Global, place: Place, table: &Value) -> Result<Cut, SheetRefusal>
-    ensures { Gives (λ c. c) result (parts_rule place
+    ensures { ReadsAs (λ c. c) result (parts_rule place
         (get (codes "fixed") (view table.now)) (get (codes "floating") (view table.now))) }
 {
     match (table.get("fixed"), table.get("floating")) {
@@ -67,7 +67,7 @@ fn cut_of_parts(alloc: Global, place: Place, table: &Value) -> Result<Cut, Sheet
 
 #[tactic(auto, unfolding(crate::specs::CutRows::segmented_rule))]
 fn segmented_cut(alloc: Global, n: u32, cost: u64, table: &Value) -> Result<Cut, SheetRefusal>
-    ensures gives { Gives (λ c. c) result (segmented_rule n cost (view table.now)) }
+    ensures gives { ReadsAs (λ c. c) result (segmented_rule n cost (view table.now)) }
     ensures valid { IfOk result (λ c. cut_rule n cost c ≡ Ok tt) }
 {
     let place = Place::Task(n);
@@ -79,7 +79,7 @@ fn segmented_cut(alloc: Global, n: u32, cost: u64, table: &Value) -> Result<Cut,
 
 /// The preemption of task `n`, which fits its cost.
 pub fn preemption(alloc: Global, n: u32, cost: u64, task: &Value) -> Result<Cut, SheetRefusal>
-    ensures gives { Gives (λ c. c) result (preemption_rule n cost
+    ensures gives { ReadsAs (λ c. c) result (preemption_rule n cost
         (get (codes "preemption") (view task.now))) }
     ensures valid { IfOk result (λ c. cut_rule n cost c ≡ Ok tt) }
 {

@@ -3,7 +3,7 @@ ghost use Rattle.std.specs.Prelude.{◌≡◌, map, bytes_eq};
 ghost use Rattle.std.specs.List.{list_any};
 ghost use Rattle.toml.specs.View.{view, table_view};
 ghost use Rattle.task_sheet.specs.Refusing.{present};
-ghost use Rattle.sheet_text.specs.Readings.{Gives, seen};
+ghost use Rattle.sheet_text.specs.Readings.{ReadsAs, seen};
 ghost use Rattle.sheet_text.specs.Documents.{document_of, has_only as has_only_of, keys_rule, needed_rule, table_rule};
 
 use std::alloc::Global;
@@ -12,7 +12,7 @@ use toml::{Table, Value};
 
 /// The document that bytes are.
 pub fn document(alloc: Global, bytes: &[u8]) -> Result<Value, SheetRefusal>
-    ensures { Gives view result (present (document_of bytes.now) SheetRefusal.Text) }
+    ensures { ReadsAs view result (present (document_of bytes.now) SheetRefusal.Text) }
 {
     match toml::table_from_slice(alloc, bytes) {
         Ok(table) => Ok(Value::Table(table)),

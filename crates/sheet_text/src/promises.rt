@@ -3,7 +3,7 @@ ghost use Rattle.std.specs.Prelude.{◌≡◌, Ok, IfOk, codes};
 ghost use Rattle.toml.specs.Data.{get};
 ghost use Rattle.toml.specs.View.{view};
 ghost use Rattle.task_sheet.specs.Rules.{supply_rule};
-ghost use Rattle.sheet_text.specs.Readings.{Gives};
+ghost use Rattle.sheet_text.specs.Readings.{ReadsAs};
 ghost use Rattle.sheet_text.specs.SupplyRows.{times_rule, promised_rule, supplied_rule};
 
 use crate::document::{check_keys, check_table, needed_value};
@@ -14,7 +14,7 @@ use task_sheet::{Field, Place, SheetRefusal, SupplySpec, check_supply};
 use toml::Value;
 
 fn promise_from(alloc: Global, horizon: u64, times: &Value) -> Result<SupplySpec, SheetRefusal>
-    ensures gives { Gives (λ s. s) result (times_rule horizon (view times.now)) }
+    ensures gives { ReadsAs (λ s. s) result (times_rule horizon (view times.now)) }
     ensures valid { IfOk result (λ s. supply_rule s ≡ Ok tt) }
 {
     let Some(times) = numbers(alloc, times)? else {
@@ -33,7 +33,7 @@ fn promise_from(alloc: Global, horizon: u64, times: &Value) -> Result<SupplySpec
 
 #[tactic(auto, unfolding(crate::specs::SupplyRows::promised_rule))]
 fn promise_of(alloc: Global, value: &Value) -> Result<SupplySpec, SheetRefusal>
-    ensures gives { Gives (λ s. s) result (promised_rule (view value.now)) }
+    ensures gives { ReadsAs (λ s. s) result (promised_rule (view value.now)) }
     ensures valid { IfOk result (λ s. supply_rule s ≡ Ok tt) }
 {
     let place = Place::Supply;
@@ -49,7 +49,7 @@ fn promise_of(alloc: Global, value: &Value) -> Result<SupplySpec, SheetRefusal>
 
 /// What a document promises of the processor.
 pub fn supply_of(alloc: Global, document: &Value) -> Result<SupplySpec, SheetRefusal>
-    ensures gives { Gives (λ s. s) result (supplied_rule
+    ensures gives { ReadsAs (λ s. s) result (supplied_rule
         (get (codes "supply") (view document.now))) }
     ensures valid { IfOk result (λ s. supply_rule s ≡ Ok tt) }
 {

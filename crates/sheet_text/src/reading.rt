@@ -4,7 +4,7 @@ ghost use Rattle.toml.specs.Data.{array};
 ghost use Rattle.toml.specs.Text.{are_tables as are_tables_of};
 ghost use Rattle.toml.specs.View.{view, items_view};
 ghost use Rattle.task_sheet.specs.Sheets.{IsValidSheet};
-ghost use Rattle.sheet_text.specs.Readings.{Gives, seen};
+ghost use Rattle.sheet_text.specs.Readings.{ReadsAs, seen};
 ghost use Rattle.sheet_text.specs.SheetRows.{policy_named as policy_named_of, policy_rule, items_rule, sheet_of as sheet_of_value, sheet_of_text};
 
 use crate::document::{check_keys, document, needed_value};
@@ -85,7 +85,7 @@ fn task_items(value: &Value) -> Result<&[Value], SheetRefusal>
 
 #[tactic(auto, unfolding(crate::specs::SheetRows::sheet_of))]
 fn sheet_of(alloc: Global, document: &Value) -> Result<Sheet, SheetRefusal>
-    ensures gives { Gives (λ s. s) result (sheet_of_value (view document.now)) }
+    ensures gives { ReadsAs (λ s. s) result (sheet_of_value (view document.now)) }
     ensures valid { IfOk result IsValidSheet }
 {
     let place = Place::Top;
@@ -102,7 +102,7 @@ fn sheet_of(alloc: Global, document: &Value) -> Result<Sheet, SheetRefusal>
 /// The only other refusal is want of memory.
 #[tactic(auto, unfolding(crate::specs::SheetRows::sheet_of_text))]
 pub fn read_sheet(alloc: Global, bytes: &[u8]) -> Result<Sheet, SheetRefusal>
-    ensures gives { Gives (λ s. s) result (sheet_of_text bytes.now) }
+    ensures gives { ReadsAs (λ s. s) result (sheet_of_text bytes.now) }
     ensures valid { IfOk result IsValidSheet }
 {
     sheet_of(alloc, &document(alloc, bytes)?)

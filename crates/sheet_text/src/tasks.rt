@@ -7,7 +7,7 @@ ghost use Rattle.curve.specs.Validity.{IsCurve};
 ghost use Rattle.lists.specs.Ranges.{is_between};
 ghost use Rattle.task_sheet.specs.Rules.{is_name as is_name_of, task_rule, tasks_rule};
 ghost use Rattle.task_sheet.specs.Sheets.{no_task};
-ghost use Rattle.sheet_text.specs.Readings.{Gives};
+ghost use Rattle.sheet_text.specs.Readings.{ReadsAs};
 ghost use Rattle.sheet_text.specs.Documents.{whole_rule};
 ghost use Rattle.sheet_text.specs.TaskRows.{name_rule, unsaid_priority as unsaid_of, priority_rule, task_of as task_of_value, tasks_after};
 
@@ -39,7 +39,7 @@ fn new_name<'a>(
     n: u32,
     names: &mut IndexSet<String>,
 ) -> Result<&'a str, SheetRefusal>
-    ensures gives { Gives (λ s. s.now) result
+    ensures gives { ReadsAs (λ s. s.now) result
         (name_rule n (map string_bytes names.old.keys) (string name.now)) }
     ensures kept { IfOk result (λ s. map string_bytes names.new.keys ≡
         map string_bytes names.old.keys ++ s.now ∷ []) }
@@ -67,7 +67,7 @@ fn name_of<'a>(
     n: u32,
     names: &mut IndexSet<String>,
 ) -> Result<&'a str, SheetRefusal>
-    ensures gives { Gives (λ s. s.now) result
+    ensures gives { ReadsAs (λ s. s.now) result
         (name_rule n (map string_bytes names.old.keys) (view value.now)) }
     ensures kept { IfOk result (λ s. map string_bytes names.new.keys ≡
         map string_bytes names.old.keys ++ s.now ∷ []) }
@@ -124,7 +124,7 @@ fn task_of(
     names: &mut IndexSet<String>,
     value: &Value,
 ) -> Result<Task, SheetRefusal>
-    ensures gives { Gives (λ t. t) result
+    ensures gives { ReadsAs (λ t. t) result
         (task_of_value policy n (map string_bytes names.old.keys) (view value.now)) }
     ensures kept { IfOk result (λ t. map string_bytes names.new.keys ≡
         map string_bytes names.old.keys ++ t.name ∷ []) }
@@ -164,7 +164,7 @@ pub fn tasks_of(
     items: &[Value],
 ) -> Result<Vec<Task>, SheetRefusal>
     requires { length items.now ≤ 256 }
-    ensures gives { Gives (λ v. v.items) result (tasks_after policy [] (items_view items.now)) }
+    ensures gives { ReadsAs (λ v. v.items) result (tasks_after policy [] (items_view items.now)) }
     ensures rules { IfOk result (λ v. tasks_rule 0 [] v.items ≡ Ok tt) }
     ensures curves { IfOk result (λ v. (i : ℕ) → i < length v.items →
         IsCurve (slice_index_or v.items i no_task).curve) }

@@ -16,7 +16,7 @@ use Rattle.task_sheet.specs.declared.tasks.Task.{Task}
 use Rattle.task_sheet.specs.declared.refusal.SheetRefusal.{SheetRefusal}
 use Rattle.task_sheet.specs.SheetParts.{SheetParts}
 use Rattle.task_sheet.specs.Refusing.{◌>>=◌, holds}
-use Rattle.task_sheet.specs.Rules.{is_in_range, is_name, is_priority_point, most_jitter, supply_rule, cut_rule, task_rule, tasks_rule, check_of}
+use Rattle.task_sheet.specs.Rules.{is_in_range, is_name, is_priority_point, most_jitter, supply_rule, cut_rule, task_rule, tasks_rule, sheet_check_of}
 use Rattle.task_sheet.specs.Sheets.{parts_of, no_task, CutFits, IsPromise, IsTask, IsValidSheet}
 
 pub holds_means : (b : Bool) (e : SheetRefusal) → holds b e ≡ Ok tt → b ≡ true
@@ -149,7 +149,7 @@ pub record TasksPass (names : List (List ℕ)) (ts : List Task) : Type 0 where
   pub fresh : (i : ℕ) → i < length ts → list_any (bytes_eq (get_or ts i no_task).name) names ≡ false
   pub distinct : (i k : ℕ) → i < k → k < length ts → (get_or ts i no_task).name ≢ (get_or ts k no_task).name
 
-or_parts : (a b : Bool) → (a || b) ≡ false → (a ≡ false) × (b ≡ false)
+pub or_parts : (a b : Bool) → (a || b) ≡ false → (a ≡ false) × (b ≡ false)
 or_parts true b h = absurd (cc)
 or_parts false b h = (refl, h)
 
@@ -214,8 +214,8 @@ valid_from_rules p s ts curves supply some few tasks =
 pub tasks_from_valid : (s : SheetParts) → IsValidSheet s → tasks_rule 0 [] s.tasks ≡ Ok tt
 tasks_from_valid s valid = tasks_pass 0 [] s.tasks (record { each = valid.each; fresh = λ i l. refl; distinct = valid.distinct })
 
-pub rules_from_valid : (p : PolicyKind) (s : SupplySpec) (ts : List Task) → IsValidSheet (parts_of p s ts) → check_of p s ts ≡ Ok (parts_of p s ts)
-unfolding check_of
+pub rules_from_valid : (p : PolicyKind) (s : SupplySpec) (ts : List Task) → IsValidSheet (parts_of p s ts) → sheet_check_of p s ts ≡ Ok (parts_of p s ts)
+unfolding sheet_check_of
 rules_from_valid p s ts valid =
     let tasks : tasks_rule 0 [] ts ≡ Ok tt = tasks_from_valid _ valid in
     rw (promise_passes s valid.supply, and_from _ _ (le-leb 1 (length ts) valid.some) (le-leb (length ts) 256 valid.few), tasks) refl

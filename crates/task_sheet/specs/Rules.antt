@@ -92,8 +92,8 @@ tasks_rule n names [] = Ok tt
 tasks_rule n names (task ∷ tasks) = task_rule n names task >>= (λ _. tasks_rule (n + 1) (names ++ task.name ∷ []) tasks)
 
 -- the sheet of these parts, or the refusal of the first rule that they break
-unfoldable pub check_of : PolicyKind → SupplySpec → List Task → Result SheetParts SheetRefusal
-check_of policy supply tasks =
+unfoldable pub sheet_check_of : PolicyKind → SupplySpec → List Task → Result SheetParts SheetRefusal
+sheet_check_of policy supply tasks =
     supply_rule supply
     >>= (λ _. holds (is_between 1 256 (length tasks)) (Range places.Top fields.Task))
     >>= (λ _. tasks_rule 0 [] tasks)

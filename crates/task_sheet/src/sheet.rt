@@ -1,6 +1,6 @@
 //! A valid sheet.
 ghost use Rattle.std.specs.Prelude.{◌≡◌, ◌<◌, ◌≤◌, ◌↔◌, length, IfOk, IsOk};
-ghost use Rattle.task_sheet.specs.Rules.{check_of};
+ghost use Rattle.task_sheet.specs.Rules.{sheet_check_of};
 ghost use Rattle.task_sheet.specs.Sheets.{parts_of, task_at, IsValidSheet};
 
 use crate::checking::{check_supply, check_tasks};
@@ -31,13 +31,13 @@ impl Model for Sheet {
 
 impl Sheet {
     /// The sheet of these parts, or the first rule that they break.
-    #[tactic(auto, unfolding(crate::specs::Rules::check_of))]
+    #[tactic(auto, unfolding(crate::specs::Rules::sheet_check_of))]
     pub fn check(
         policy: PolicyKind,
         supply: SupplySpec,
         tasks: Vec<Task>,
     ) -> Result<Sheet, SheetRefusal>
-        ensures checked { result ≡ check_of policy supply tasks.items }
+        ensures checked { result ≡ sheet_check_of policy supply tasks.items }
         ensures valid { IsOk result ↔ IsValidSheet (parts_of policy supply tasks.items) }
     {
         check_supply(&supply)?;

@@ -31,7 +31,9 @@ valid_without run t Off h = refl
 valid_without run t Idle h = refl
 valid_without run t (Runs k) h = must_holds (may_run run k t) (fault_at rule.Valid k t) h
 
-pub invalid_some : (run : Run) (t k : ℕ) → IsFirstBelow (λ s. is_valid_at run s ≡ false) (length run.ticks) (Some t) → tick_at run t ≡ Runs k → invalid_in run ≡ Some (fault_at rule.Valid k t)
+pub invalid_some : (run : Run) (t k : ℕ) →
+    IsFirstBelow (λ s. is_valid_at run s ≡ false) (length run.ticks) (Some t) → tick_at run t ≡ Runs k →
+    invalid_in run ≡ Some (fault_at rule.Valid k t)
 unfolding invalid_in
 invalid_some run t k first runs =
     let bad : may_run run k t ≡ false = ap (may_be_at run t) (sym runs) ∙ first.1 in
@@ -55,12 +57,14 @@ none_invalid run none t b = valid_without run t (tick_at run t) (none_below (λ 
 abbrev crowd_at : SheetParts → Run → ℕ → ℕ → Bool
 crowd_at sheet run t k = ((job_at run k).arrival == t) && is_crowded sheet run k
 
-crowd_from : (sheet : SheetParts) (run : Run) (t k : ℕ) → crowd_at sheet run t k ≡ true → ((job_at run k).arrival ≡ t) × (is_crowded sheet run k ≡ true)
+crowd_from : (sheet : SheetParts) (run : Run) (t k : ℕ) → crowd_at sheet run t k ≡ true →
+    ((job_at run k).arrival ≡ t) × (is_crowded sheet run k ≡ true)
 crowd_from sheet run t k h =
     let parts = and_parts ((job_at run k).arrival == t) (is_crowded sheet run k) h in
     (eqb-true (job_at run k).arrival t parts.0, parts.1)
 
-crowd_to : (sheet : SheetParts) (run : Run) (k : ℕ) → is_crowded sheet run k ≡ true → crowd_at sheet run (job_at run k).arrival k ≡ true
+crowd_to : (sheet : SheetParts) (run : Run) (k : ℕ) → is_crowded sheet run k ≡ true →
+    crowd_at sheet run (job_at run k).arrival k ≡ true
 crowd_to sheet run k h = and_from _ _ (eq-eqb (job_at run k).arrival (job_at run k).arrival refl) h
 
 no_earlier : (run : Run) (k n : ℕ) → IsNoLater run k n → (job_at run k).arrival ≤ (job_at run n).arrival
@@ -74,7 +78,8 @@ no_less run k n (inr same) e = same.1
 arrives_within : (run : Run) (k : ℕ) → k < length run.jobs → (job_at run k).arrival < last_arrival run + 1
 arrives_within run k b = omega (arith, max_at_least (λ n. (job_at run n).arrival) (length run.jobs) k b)
 
-pub crowded_some : (sheet : SheetParts) (run : Run) (k : ℕ) → IsFirstCrowded sheet run (Some k) → crowded_in sheet run ≡ Some (fault_at rule.Curve k (job_at run k).arrival)
+pub crowded_some : (sheet : SheetParts) (run : Run) (k : ℕ) → IsFirstCrowded sheet run (Some k) →
+    crowded_in sheet run ≡ Some (fault_at rule.Curve k (job_at run k).arrival)
 unfolding crowded_in
 crowded_some sheet run k first =
     found_some rule.Curve (crowd_at sheet run) (last_arrival run + 1) (length run.jobs) (job_at run k).arrival k (arrives_within run k first.0) first.0 (crowd_to sheet run k first.1)
@@ -116,19 +121,23 @@ module _ (sbf : ℕ → ℕ) (run : Run) where
       let e : 0 - s.start ≡ 0 = omega arith in
       omega (arith, s.few, ap sbf e))
 
-  enough_to : sbf 0 ≡ 0 → (t : ℕ) → ((s : ℕ) → s < t → is_short sbf run (s + 1) ≡ true → ⊥) → (u : ℕ) → u < t + 1 → enough_at u ≡ true
+  enough_to : sbf 0 ≡ 0 → (t : ℕ) → ((s : ℕ) → s < t → is_short sbf run (s + 1) ≡ true → ⊥) → (u : ℕ) → u < t + 1 →
+      enough_at u ≡ true
   enough_to starts t before zero b = not_from_false (is_short sbf run 0) (never_at_zero starts)
   enough_to starts t before (suc u) b =
       let e : u + 1 ≡ suc u = omega arith in
       not_from_false (is_short sbf run (suc u)) (false_from_ne_true (is_short sbf run (suc u)) (λ h. before u (omega arith) (rw e h)))
 
-  pub short_some : (t : ℕ) → sbf 0 ≡ 0 → IsFirstBelow (λ s. is_short sbf run (s + 1) ≡ true) (length run.ticks) (Some t) → short_in sbf run ≡ Some (shortage t)
+  pub short_some : (t : ℕ) → sbf 0 ≡ 0 →
+      IsFirstBelow (λ s. is_short sbf run (s + 1) ≡ true) (length run.ticks) (Some t) →
+      short_in sbf run ≡ Some (shortage t)
   unfolding short_in
   short_some t starts first =
       let e : t + 1 - 1 ≡ t = omega arith in
       first_fails enough_at shortage_at (length run.ticks + 1) (t + 1) (omega (arith, first.0)) (not_from_true (is_short sbf run (t + 1)) first.1) (enough_to starts t first.2) ∙ ap (λ (w : ℕ). Some (shortage w)) e
 
-  pub short_none : sbf 0 ≡ 0 → IsFirstBelow (λ s. is_short sbf run (s + 1) ≡ true) (length run.ticks) None → short_in sbf run ≡ None
+  pub short_none : sbf 0 ≡ 0 → IsFirstBelow (λ s. is_short sbf run (s + 1) ≡ true) (length run.ticks) None →
+      short_in sbf run ≡ None
   unfolding short_in
   short_none starts none = all_hold enough_at shortage_at (length run.ticks + 1) (λ u b. enough_to starts (length run.ticks) none u b)
 

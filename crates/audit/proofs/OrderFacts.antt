@@ -16,7 +16,8 @@ arrivals_none run arrivals is = record { count = ap length is; each = λ k b. ab
 longer : (xs : List Arrival) (a : Arrival) → length (xs ++ a ∷ []) ≡ length xs + 1
 longer xs a = length-append xs (a ∷ [])
 
-pub arrivals_more : (run : Run) (n : ℕ) (arrivals : List Arrival) (a : Arrival) → a ≡ arrival_of run n → AreFirstArrivals run n arrivals → AreFirstArrivals run (n + 1) (arrivals ++ a ∷ [])
+pub arrivals_more : (run : Run) (n : ℕ) (arrivals : List Arrival) (a : Arrival) → a ≡ arrival_of run n →
+    AreFirstArrivals run n arrivals → AreFirstArrivals run (n + 1) (arrivals ++ a ∷ [])
 arrivals_more run n arrivals a is h = record {
   count = omega (arith, longer arrivals a, h.count);
   each = λ k b. elim (cases_lt k n) [

@@ -17,7 +17,8 @@ use Rattle.run_text.specs.Text.{IsWithinLimits, IsJob, IsTickOf}
 use Rattle.audit.specs.Premises.{IsSmall}
 
 -- a job as it was read
-pub job_read : (run : Run) (jobs : List Job) (k : ℕ) (j : Job) → k < length run.jobs → jobs ≡ run.jobs → j ≡ get_or jobs k j → j ≡ job_at run k
+pub job_read : (run : Run) (jobs : List Job) (k : ℕ) (j : Job) → k < length run.jobs → jobs ≡ run.jobs →
+    j ≡ get_or jobs k j → j ≡ job_at run k
 job_read run jobs k j b same is = get_or_read run.jobs k j b (is ∙ ap (λ (v : List Job). get_or v k j) same) no_job
 
 named_tick : (n : ℕ) (x : Tick) (k : ℕ) → IsTickOf n x → x ≡ Runs k → k < n
@@ -40,5 +41,7 @@ small_from run h = record {
 }
 
 -- whether a job can be cut at t, by the service that it has had
-pub cut_read : (m : CutMeaning) (sheet : SheetParts) (run : Run) (t k s : ℕ) (r : Bool) → r ≡ m.cuttable (task_at sheet (job_at run k).task) (job_at run k) s → s ≡ service_of run k t → can_cut m sheet run k t ≡ r
+pub cut_read : (m : CutMeaning) (sheet : SheetParts) (run : Run) (t k s : ℕ) (r : Bool) →
+    r ≡ m.cuttable (task_at sheet (job_at run k).task) (job_at run k) s → s ≡ service_of run k t →
+    can_cut m sheet run k t ≡ r
 cut_read m sheet run t k s r given at = cc

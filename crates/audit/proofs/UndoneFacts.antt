@@ -12,7 +12,9 @@ use Rattle.audit.specs.ArrivalOrder.{arrival_at, IsOrder}
 use Rattle.audit.specs.UndoneJobs.{IsLeft, IsFront, AreDoneBefore, ArePlaces, AreBelow, IsReadyAt, AreUndoneAt}
 
 -- a place whose job is not left
-pub past_more : (run : Run) (served : List ℕ) (order : List Arrival) (o i : ℕ) → i < length order → (IsLeft run served o (arrival_at order i).job → ⊥) → AreDoneBefore run served order o i → AreDoneBefore run served order o (i + 1)
+pub past_more : (run : Run) (served : List ℕ) (order : List Arrival) (o i : ℕ) → i < length order →
+    (IsLeft run served o (arrival_at order i).job → ⊥) → AreDoneBefore run served order o i →
+    AreDoneBefore run served order o (i + 1)
 past_more run served order o i b done past = record {
   within = omega arith;
   done = λ n c. elim (cases_lt n i) [
@@ -22,7 +24,9 @@ past_more run served order o i b done past = record {
 }
 
 -- the first place that is left is the front
-pub front_some : (run : Run) (served : List ℕ) (order : List Arrival) (o i : ℕ) → IsOrder run order → i < length order → AreDoneBefore run served order o i → IsLeft run served o (arrival_at order i).job → IsFront run served o (Some (arrival_at order i).job)
+pub front_some : (run : Run) (served : List ℕ) (order : List Arrival) (o i : ℕ) → IsOrder run order →
+    i < length order → AreDoneBefore run served order o i → IsLeft run served o (arrival_at order i).job →
+    IsFront run served o (Some (arrival_at order i).job)
 front_some run served order o i ordered b past left = (
   left,
   (λ n other.
@@ -36,13 +40,16 @@ front_some run served order o i ordered b past left = (
       ]),
 )
 
-pub front_none : (run : Run) (served : List ℕ) (order : List Arrival) (o i : ℕ) → IsOrder run order → length order ≤ i → AreDoneBefore run served order o i → IsFront run served o None
+pub front_none : (run : Run) (served : List ℕ) (order : List Arrival) (o i : ℕ) → IsOrder run order →
+    length order ≤ i → AreDoneBefore run served order o i → IsFront run served o None
 front_none run served order o i ordered b past = λ n other.
     let at = ordered.complete n other.listed in
     past.done at.place (omega (arith, at.within)) (subst (IsLeft run served o) (sym at.is) other)
 
 -- one place moved on
-pub places_set : (run : Run) (served : List ℕ) (order : List Arrival) (places : List ℕ) (o i : ℕ) → o < length places → AreDoneBefore run served order o i → ArePlaces run served order places → ArePlaces run served order (set places o i)
+pub places_set : (run : Run) (served : List ℕ) (order : List Arrival) (places : List ℕ) (o i : ℕ) →
+    o < length places → AreDoneBefore run served order o i → ArePlaces run served order places →
+    ArePlaces run served order (set places o i)
 places_set run served order places o i b past all n c = elim (cases_eq n o) [
   | inl e ↦
       let at : get_or (set places o i) o 0 ≡ i = get_or-set_same places o i 0 b in
@@ -53,7 +60,8 @@ places_set run served order places o i b past all n c = elim (cases_eq n o) [
 ]
 
 -- what is left later was left before
-left_before : (run : Run) (t : ℕ) (served after : List ℕ) (o k : ℕ) → t < length run.ticks → IsServed run t served → IsServed run (t + 1) after → IsLeft run after o k → IsLeft run served o k
+left_before : (run : Run) (t : ℕ) (served after : List ℕ) (o k : ℕ) → t < length run.ticks → IsServed run t served →
+    IsServed run (t + 1) after → IsLeft run after o k → IsLeft run served o k
 left_before run t served after o k b s a left = record {
   listed = left.listed;
   task = left.task;
@@ -61,7 +69,9 @@ left_before run t served after o k b s a left = record {
 }
 
 -- a tick later
-pub undone_more : (run : Run) (t : ℕ) (served after : List ℕ) (order : List Arrival) (places : List ℕ) → t < length run.ticks → AreUndoneAt run t served order places → IsServed run (t + 1) after → AreUndoneAt run (t + 1) after order places
+pub undone_more : (run : Run) (t : ℕ) (served after : List ℕ) (order : List Arrival) (places : List ℕ) →
+    t < length run.ticks → AreUndoneAt run t served order places → IsServed run (t + 1) after →
+    AreUndoneAt run (t + 1) after order places
 undone_more run t served after order places b p a =
     let ready = p.ready in
     record {
@@ -75,7 +85,9 @@ undone_more run t served after order places b p a =
     }
 
 -- before the first tick
-pub undone_none : (run : Run) (tasks : ℕ) (served : List ℕ) (order : List Arrival) (places : List ℕ) → AreBelow run tasks → IsServed run 0 served → IsOrder run order → places ≡ replicate tasks 0 → AreUndoneAt run 0 served order places
+pub undone_none : (run : Run) (tasks : ℕ) (served : List ℕ) (order : List Arrival) (places : List ℕ) →
+    AreBelow run tasks → IsServed run 0 served → IsOrder run order → places ≡ replicate tasks 0 →
+    AreUndoneAt run 0 served order places
 undone_none run tasks served order places below s ordered is =
     let all : length places ≡ tasks = ap length is ∙ length-replicate {A = ℕ} tasks 0 in
     record {
@@ -91,5 +103,7 @@ undone_none run tasks served order places below s ordered is =
     }
 
 -- with other places
-pub ready_with : (run : Run) (served : List ℕ) (order : List Arrival) (places others : List ℕ) → length others ≡ length places → IsReadyAt run served order places → ArePlaces run served order others → IsReadyAt run served order others
+pub ready_with : (run : Run) (served : List ℕ) (order : List Arrival) (places others : List ℕ) →
+    length others ≡ length places → IsReadyAt run served order places → ArePlaces run served order others →
+    IsReadyAt run served order others
 ready_with run served order places others same ready past = record { count = ready.count; ordered = ready.ordered; tasks = subst (AreBelow run) (sym same) ready.tasks; past = past }

@@ -26,7 +26,8 @@ abbrev pub IsAtOnce : Run → Type 0
 IsAtOnce run = (k : ℕ) → k < length run.jobs → (job_at run k).release ≡ (job_at run k).arrival
 
 -- so each is released as its task allows
-released_at_once : (sheet : SheetParts) (run : Run) → IsAtOnce run → (k : ℕ) → k < length run.jobs → IsReleased sheet run k
+released_at_once : (sheet : SheetParts) (run : Run) → IsAtOnce run → (k : ℕ) → k < length run.jobs →
+    IsReleased sheet run k
 released_at_once sheet run prompt k b = record {
   timely = record { after = omega (arith, prompt k b); soon = omega (arith, prompt k b) };
   order = λ n c same earlier. omega (arith, prompt k b, prompt n c);
@@ -83,18 +84,23 @@ module _ (p : PolicyMeaning) (m : CutMeaning) (sbf : ℕ → ℕ) (sheet : Sheet
       (found_none rule.Priority (is_priority_broken p m sheet run) (length run.ticks) (length run.jobs) tests.policy))))))
 
   -- a run breaks no rule exactly where it complies
-  pub unbroken_complies : IsValidSheet sheet → IsAtOnce run → (first_broken p m sbf sheet run ≡ None) ↔ IsCompliant p m sbf sheet run
+  pub unbroken_complies : IsValidSheet sheet → IsAtOnce run →
+      (first_broken p m sbf sheet run ≡ None) ↔ IsCompliant p m sbf sheet run
   unbroken_complies ok prompt = ((λ none. complies p m sbf sheet ok run (unbroken_passes prompt none)), (λ c. passes_unbroken (passes p m sbf sheet ok run c)))
 
   -- what holds of the run where no rule is found broken
-  pub complies_from : (r : Option Fault) → r ≡ first_broken p m sbf sheet run → r ≡ None → IsValidSheet sheet → IsAtOnce run → IsCompliant p m sbf sheet run
+  pub complies_from : (r : Option Fault) → r ≡ first_broken p m sbf sheet run → r ≡ None → IsValidSheet sheet →
+      IsAtOnce run → IsCompliant p m sbf sheet run
   complies_from r is none ok prompt = (unbroken_complies ok prompt).0 (sym is ∙ none)
 
-  pub not_from : (r : Option Fault) (fault : Fault) → r ≡ first_broken p m sbf sheet run → r ≡ Some fault → IsValidSheet sheet → IsAtOnce run → IsCompliant p m sbf sheet run → ⊥
+  pub not_from : (r : Option Fault) (fault : Fault) → r ≡ first_broken p m sbf sheet run → r ≡ Some fault →
+      IsValidSheet sheet → IsAtOnce run → IsCompliant p m sbf sheet run → ⊥
   not_from r fault is some ok prompt c = let none = (unbroken_complies ok prompt).1 c in cc
 
 -- a job that fits needs some service
-pub positive_from : (m : CutMeaning) (sheet : SheetParts) (run : Run) → ((task : Task) → IsTask task → m.serves task ≡ true → IsLawfulCut m task) → IsValidSheet sheet → Serves m sheet → AreFitting m sheet run → ArePositive run
+pub positive_from : (m : CutMeaning) (sheet : SheetParts) (run : Run) →
+    ((task : Task) → IsTask task → m.serves task ≡ true → IsLawfulCut m task) → IsValidSheet sheet →
+    Serves m sheet → AreFitting m sheet run → ArePositive run
 positive_from m sheet run lawful ok served fitting k b =
     let job = fitting k b in
     let o = (job_at run k).task in

@@ -56,7 +56,8 @@ fn breaks_idling(run: &Run, undone: &mut UndoneJobs, t: u64) -> bool
 pub fn idle_tick(alloc: Global, sheet: &Sheet, run: &Run) -> Result<Option<u64>, AllocError>
     requires small { IsSmall run.now }
     requires tasks { AreOf sheet.now run.now }
-    ensures { IfOk result (IsFirstBelow (IsTick (is_idle_broken run.now) run.now) (length run.now.ticks)) }
+    ensures { IfOk result (IsFirstBelow (IsTick (is_idle_broken run.now) run.now)
+        (length run.now.ticks)) }
 {
     let mut undone = UndoneJobs::new(alloc, run, sheet.len())?;
     for t in 0..run.ticks.len() as u64 {

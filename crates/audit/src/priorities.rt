@@ -72,7 +72,8 @@ fn breaks_priorities<P: Policy, M: Tabled>(
     requires served { Serves M.cuts sheet.now }
     requires sums { AreSums run.now sums.now }
     requires undone { AreUndone run.now t undone.old }
-    ensures broken { IsTrue result ↔ IsTick (is_priority_broken P.meaning M.cuts sheet.now run.now) run.now t }
+    ensures broken { IsTrue result ↔
+        IsTick (is_priority_broken P.meaning M.cuts sheet.now run.now) run.now t }
     ensures undone { AreUndone run.now t undone.new }
 {
     let Tick::Runs(k) = run.ticks.as_slice()[t as usize] else {
@@ -94,7 +95,9 @@ pub fn priority_tick<P: Policy, M: Tabled>(
     requires tasks { AreOf sheet.now run.now }
     requires served { Serves M.cuts sheet.now }
     requires sums { AreSums run.now sums.now }
-    ensures { IfOk result (IsFirstBelow (IsTick (is_priority_broken P.meaning M.cuts sheet.now run.now) run.now) (length run.now.ticks)) }
+    ensures { IfOk result (IsFirstBelow
+        (IsTick (is_priority_broken P.meaning M.cuts sheet.now run.now) run.now)
+        (length run.now.ticks)) }
 {
     let mut undone = UndoneJobs::new(alloc, run, sheet.len())?;
     for t in 0..run.ticks.len() as u64 {

@@ -43,9 +43,11 @@ fn inside_after<M: Tabled>(
     requires sums { AreSums run.now sums.now }
     requires tick { t < length run.now.ticks }
     requires served { IsServed run.now (t + 1) served.now }
-    requires inside { OnlyFails (λ k. can_cut M.cuts sheet.now run.now k t) (length run.now.jobs) inside }
+    requires inside { OnlyFails (λ k. can_cut M.cuts sheet.now run.now k t)
+        (length run.now.jobs) inside }
     requires stays { Leaves (tick_at run.now t) inside → ⊥ }
-    ensures { OnlyFails (λ k. can_cut M.cuts sheet.now run.now k (t + 1)) (length run.now.jobs) result }
+    ensures { OnlyFails (λ k. can_cut M.cuts sheet.now run.now k (t + 1))
+        (length run.now.jobs) result }
 {
     let Tick::Runs(k) = run.ticks.as_slice()[t as usize] else {
         return inside;
@@ -68,7 +70,8 @@ pub fn segment_tick<M: Tabled>(
     requires fit { AreFitting M.cuts sheet.now run.now }
     requires served { Serves M.cuts sheet.now }
     requires sums { AreSums run.now sums.now }
-    ensures { IfOk result (IsFirstBelow (IsTick (is_segment_broken M.cuts sheet.now run.now) run.now) (length run.now.ticks)) }
+    ensures { IfOk result (IsFirstBelow
+        (IsTick (is_segment_broken M.cuts sheet.now run.now) run.now) (length run.now.ticks)) }
 {
     let _valid = sheet.len();
     let mut served = no_service(alloc, run)?;

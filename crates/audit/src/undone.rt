@@ -35,7 +35,8 @@ fn next_place(run: &Run, served: &[u64], order: &[Arrival], o: usize, place: u64
     requires order { IsOrder run.now order.now }
     requires past { AreDoneBefore run.now served.now order.now o place }
     ensures past { AreDoneBefore run.now served.now order.now o result }
-    ensures left { result < length order.now → IsLeft run.now served.now o (arrival_at order.now result).job }
+    ensures left { result < length order.now →
+        IsLeft run.now served.now o (arrival_at order.now result).job }
 {
     for i in place..order.len() as u64 {
         if is_left(run, served, o, order[i as usize].job) {

@@ -55,7 +55,8 @@ fn is_valid(run: &Run, undone: &mut UndoneJobs, t: u64) -> bool
 pub fn invalid_tick(alloc: Global, sheet: &Sheet, run: &Run) -> Result<Option<u64>, AllocError>
     requires small { IsSmall run.now }
     requires tasks { AreOf sheet.now run.now }
-    ensures { IfOk result (IsFirstBelow (λ t. is_valid_at run.now t ≡ false) (length run.now.ticks)) }
+    ensures { IfOk result (IsFirstBelow (λ t. is_valid_at run.now t ≡ false)
+        (length run.now.ticks)) }
 {
     let mut undone = UndoneJobs::new(alloc, run, sheet.len())?;
     for t in 0..run.ticks.len() as u64 {

@@ -14,7 +14,11 @@ use run_model::{Run, Tick, is_pending, service};
 use task_sheet::Sheet;
 
 /// Whether tick `t` is idle and job `k` is pending there.
-#[tactic(auto, using(crate::proofs::TestFacts::pending_is), unfolding(crate::specs::Tests::is_idle_broken))]
+#[tactic(
+    auto,
+    using(crate::proofs::TestFacts::pending_is),
+    unfolding(crate::specs::Tests::is_idle_broken)
+)]
 fn is_idle_broken(run: &Run, t: u64, k: u32) -> bool
     requires job { k < length run.now.jobs }
     requires tick { t < length run.now.ticks }
@@ -30,7 +34,8 @@ fn is_idle_broken(run: &Run, t: u64, k: u32) -> bool
 pub fn idle_broken(run: &Run, t: u64) -> Option<u32>
     requires few { length run.now.jobs < 2 ^ 32 }
     requires tick { t < length run.now.ticks }
-    ensures { IsFirstBelow (λ k. is_idle_broken_by run.now t k ≡ true) (length run.now.jobs) result }
+    ensures { IsFirstBelow (λ k. is_idle_broken_by run.now t k ≡ true)
+        (length run.now.jobs) result }
 {
     for k in 0..run.jobs.len() as u32 {
         if is_idle_broken(run, t, k) {
@@ -71,7 +76,8 @@ pub fn segment_broken<M: Preemption>(sheet: &Sheet, run: &Run, t: u64) -> Option
     requires few { length run.now.jobs < 2 ^ 32 }
     requires tick { t < length run.now.ticks }
     requires tasks { AreOf sheet.now run.now }
-    ensures { IsFirstBelow (λ k. is_segment_broken_by M.cuts sheet.now run.now t k ≡ true) (length run.now.jobs) result }
+    ensures { IsFirstBelow (λ k. is_segment_broken_by M.cuts sheet.now run.now t k ≡ true)
+        (length run.now.jobs) result }
 {
     for k in 0..run.jobs.len() as u32 {
         if is_segment_broken::<M>(sheet, run, t, k) {
@@ -87,14 +93,19 @@ fn is_as_urgent<P: Policy>(sheet: &Sheet, run: &Run, k: u32, n: u32) -> bool
     requires other { n < length run.now.jobs }
     requires tasks { AreOf sheet.now run.now }
     requires arrivals { AreEarly run.now }
-    ensures { result ≡ key_le (P.meaning.key sheet.now (job_at run.now k)) (P.meaning.key sheet.now (job_at run.now n)) }
+    ensures { result ≡ key_le (P.meaning.key sheet.now (job_at run.now k))
+        (P.meaning.key sheet.now (job_at run.now n)) }
 {
     let jobs = run.jobs.as_slice();
     P::key(sheet, &jobs[k as usize]).is_at_most(P::key(sheet, &jobs[n as usize]))
 }
 
 /// Whether job `n` is pending at tick `t` and more urgent than the job that runs and can be cut.
-#[tactic(auto, using(crate::proofs::TestFacts::pending_is), unfolding(crate::specs::Tests::is_priority_broken))]
+#[tactic(
+    auto,
+    using(crate::proofs::TestFacts::pending_is),
+    unfolding(crate::specs::Tests::is_priority_broken)
+)]
 fn is_priority_broken<P: Policy, M: Preemption>(sheet: &Sheet, run: &Run, t: u64, n: u32) -> bool
     requires job { n < length run.now.jobs }
     requires tick { t < length run.now.ticks }
@@ -116,7 +127,8 @@ pub fn priority_broken<P: Policy, M: Preemption>(sheet: &Sheet, run: &Run, t: u6
     requires tasks { AreOf sheet.now run.now }
     requires named { (k : ℕ) → tick_at run.now t ≡ Runs k → k < length run.now.jobs }
     requires arrivals { AreEarly run.now }
-    ensures { IsFirstBelow (λ n. is_priority_broken_by P.meaning M.cuts sheet.now run.now t n ≡ true) (length run.now.jobs) result }
+    ensures { IsFirstBelow (λ n. is_priority_broken_by P.meaning M.cuts sheet.now run.now t n ≡ true)
+        (length run.now.jobs) result }
 {
     for n in 0..run.jobs.len() as u32 {
         if is_priority_broken::<P, M>(sheet, run, t, n) {

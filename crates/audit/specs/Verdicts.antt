@@ -32,5 +32,5 @@ TellsCompliance p m sbf sheet run (Broken of job tick) = IsCompliant p m sbf she
 abbrev pub VerdictDecides : PolicyMeaning → CutMeaning → (ℕ → ℕ) → Type 0
 VerdictDecides p m sbf =
     (sheet : SheetParts) → IsValidSheet sheet → (run : Run) → ((k : ℕ) → k < length run.jobs →
-        (job_at run k).release ≡ (job_at run k).arrival) →
+    (job_at run k).release ≡ (job_at run k).arrival) →
     (first_broken p m sbf sheet run ≡ None) ↔ IsCompliant p m sbf sheet run

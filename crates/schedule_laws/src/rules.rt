@@ -14,11 +14,7 @@ use run_model::{Run, Tick, is_pending, service};
 use task_sheet::Sheet;
 
 /// Whether tick `t` is idle and job `k` is pending there.
-#[tactic(
-    auto,
-    using(crate::proofs::TestFacts::pending_is),
-    unfolding(crate::specs::Tests::is_idle_broken)
-)]
+#[tactic(auto, using(crate::proofs::TestFacts::pending_is), unfolding(crate::specs::Tests::is_idle_broken))]
 fn is_idle_broken(run: &Run, t: u64, k: u32) -> bool
     requires job { k < length run.now.jobs }
     requires tick { t < length run.now.ticks }
@@ -101,11 +97,7 @@ fn is_as_urgent<P: Policy>(sheet: &Sheet, run: &Run, k: u32, n: u32) -> bool
 }
 
 /// Whether job `n` is pending at tick `t` and more urgent than the job that runs and can be cut.
-#[tactic(
-    auto,
-    using(crate::proofs::TestFacts::pending_is),
-    unfolding(crate::specs::Tests::is_priority_broken)
-)]
+#[tactic(auto, using(crate::proofs::TestFacts::pending_is), unfolding(crate::specs::Tests::is_priority_broken))]
 fn is_priority_broken<P: Policy, M: Preemption>(sheet: &Sheet, run: &Run, t: u64, n: u32) -> bool
     requires job { n < length run.now.jobs }
     requires tick { t < length run.now.ticks }

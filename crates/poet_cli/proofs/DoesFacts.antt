@@ -23,7 +23,7 @@ use Rattle.poet_cli.specs.Clauses.{LeavesShelf}
 
 -- a sheet was read from these bytes
 sheet_is : (read : Result SheetParts SheetRefusal) (parts : SheetParts) → sheet_read read ≡ Ok parts → read ≡ Ok parts
-sheet_is (Ok sheet) parts e = e
+sheet_is (Ok sheet) parts e = cc
 sheet_is (Err sheets.Memory) parts e = absurd (cc)
 sheet_is (Err sheets.Text) parts e = absurd (cc)
 sheet_is (Err (sheets.Unknown place)) parts e = absurd (cc)
@@ -139,22 +139,22 @@ reading_shut which name before now (Points task) reading = tt
 reading_shut which name before now Jobs reading = tt
 reading_shut which name before now Segments reading = tt
 
-shut_same : {A B : Type 0} (is_open : Bool) (refusal : Refusal) → Shut {A = A} is_open (Err refusal) → Shut {A = B} is_open (Err refusal)
-shut_same is_open Usage shut = tt
-shut_same is_open (Read which) shut = shut
-shut_same is_open (Sheet refusal) shut = tt
-shut_same is_open (Text which line) shut = tt
-shut_same is_open (Limit which) shut = tt
-shut_same is_open (Points name) shut = tt
-shut_same is_open Jobs shut = tt
-shut_same is_open Segments shut = tt
-shut_same is_open Memory shut = tt
+shut_same : (A B : Type 0) (is_open : Bool) (refusal : Refusal) → Shut {A = A} is_open (Err refusal) → Shut {A = B} is_open (Err refusal)
+shut_same A B is_open Usage shut = tt
+shut_same A B is_open (Read which) shut = shut
+shut_same A B is_open (Sheet refusal) shut = tt
+shut_same A B is_open (Text which line) shut = tt
+shut_same A B is_open (Limit which) shut = tt
+shut_same A B is_open (Points name) shut = tt
+shut_same A B is_open Jobs shut = tt
+shut_same A B is_open Segments shut = tt
+shut_same A B is_open Memory shut = tt
 
 module _ {A : Type 0} (which : Source) (name : List ℕ) (Ends : List ℕ → Result A Refusal → Type 0) (before now : ShelfAt) (result : Result A Refusal) (answer : List ℕ → Result A Refusal)
     (gives : (bytes : List ℕ) → Ends bytes result → Gives (answer bytes) result) where
   reads_shut : (gave : Result (List ℕ) Refusal) → IsFileReading which name before now gave → After Ends gave result → Shut now.is_open result
   reads_shut (Ok bytes) reading after = gives_shut (answer bytes) now.is_open result (gives bytes after)
-  reads_shut (Err refusal) reading after = rw after (shut_same now.is_open refusal (reading_shut which name before now refusal reading))
+  reads_shut (Err refusal) reading after = rw after (shut_same (Unit {0}) A now.is_open refusal (reading_shut which name before now refusal reading))
 
   reads_leave : Reads which name Ends before now result → Leaves before now result
   reads_leave reads = record { files = reads.reading.files; later = reads.reading.later; shut = reads_shut reads.gave reads.reading reads.after }
@@ -165,7 +165,7 @@ sheet_leaves name before now result sheet = reads_leave source.Sheet name (λ by
 module _ (name : List ℕ) (Ends : SheetParts → Ending → Type 0) (answer : SheetParts → Ending) (before now : ShelfAt) (ending : Ending) (gives : (parts : SheetParts) → Ends parts ending → Gives (answer parts) ending) where
   one_shut : (gave : Result SheetParts Refusal) → Shut now.is_open gave → After Ends gave ending → Shut now.is_open ending
   one_shut (Ok parts) shut after = gives_shut (answer parts) now.is_open ending (gives parts after)
-  one_shut (Err refusal) shut after = rw after (shut_same now.is_open refusal shut)
+  one_shut (Err refusal) shut after = rw after (shut_same SheetParts Printed now.is_open refusal shut)
 
   one_leaves : OneFile name Ends before now ending → Leaves before now ending
   one_leaves one =
@@ -180,7 +180,7 @@ module _ (sheet_name : List ℕ) (which : Source) (name : List ℕ) (Ends : Shee
       record { files = left.files ∙ first.files; later = omega (arith, first.later, left.later); shut = left.shut }
   two_by (Err refusal) first next =
       let here : now ≡ middle = next.0 in
-      rw (here, next.1) (record { files = first.files; later = first.later; shut = shut_same middle.is_open refusal first.shut })
+      rw (here, next.1) (record { files = first.files; later = first.later; shut = shut_same SheetParts Printed middle.is_open refusal first.shut })
 
 two_leaves : (sheet_name : List ℕ) (which : Source) (name : List ℕ) (Ends : SheetParts → List ℕ → Ending → Type 0) (answer : SheetParts → List ℕ → Ending) (before now : ShelfAt) (ending : Ending) →
     ((parts : SheetParts) (bytes : List ℕ) → Ends parts bytes ending → Gives (answer parts bytes) ending) → TwoFiles sheet_name which name Ends before now ending → Leaves before now ending

@@ -1,5 +1,5 @@
 -- What a command ends with, where the shelf tells its files.
-use Rattle.std.proofs.Common.{◌≡◌, ◌<◌, ◌≤◌, ◌⊎◌, inl, inr, ℕ, List, length, Option, Some, None, Result, Ok, Err, nat_le, if◌then◌else◌, true, false, refl, sym, subst, ◌∙◌, arith}
+use Rattle.std.proofs.Common.{◌≡◌, ◌<◌, ◌≤◌, ◌⊎◌, inl, inr, ℕ, List, length, Option, Some, None, Result, Ok, Err, nat_le, if◌then◌else◌, true, false, refl, sym, ap, subst, ◌∙◌, arith}
 use Rattle.std.proofs.lemmas.Bool.Decides.{nat_tests}
 use Rattle.poet_io.specs.Faults.{Rose}
 use Rattle.poet_io.specs.Shelves.{Files, IfTold, IsTold}
@@ -13,7 +13,7 @@ use Rattle.poet_cli.specs.Refusals.{limit_of}
 use Rattle.poet_cli.specs.Endings.{Ending, next}
 use Rattle.poet_cli.specs.Answers.{within, file_in, sheet_by, sheet_in}
 use Rattle.poet_cli.specs.Words.{Asked, CheckOf, AnalyseOf, SimulateOf, AuditOf, ReportOf, ExerciseOf}
-use Rattle.poet_cli.specs.Readings.{ShelfAt, IsFileReading}
+use Rattle.poet_cli.specs.Readings.{ShelfAt, IsLongerThan, IsFileReading}
 use Rattle.poet_cli.specs.Steps.{Gives, After, Reads, ReadsSheet, NoFile, OneFile, ReadsNext, TwoFiles}
 use Rattle.poet_cli.specs.Program.{over_sheet, over_both, asked_answer, Does}
 
@@ -87,10 +87,10 @@ reading_found : (which : Source) (name : List ℕ) (before now : ShelfAt) (gave 
 reading_found which name before now (Ok bytes) r = if_told_map before.files _ _ (λ x e. rw e (within_few which bytes r.calls.few)) r.calls.is_told
 reading_found which name before now (Err (Read at)) r =
     let is : at ≡ which = r.calls.0 in
-    elim r.calls.1.calls [ inl fault ↦ inl fault.1 | inr absent ↦ inr (is_told_map before.files _ _ (λ x e. rw (e, is) refl) absent.1) ]
+    elim r.calls.1.calls [ inl fault ↦ inl fault.1 | inr absent ↦ inr (is_told_map before.files _ _ (λ x e. rw is (ap (within which) e)) absent.1) ]
 reading_found which name before now (Err (Limit at)) r =
     let is : at ≡ which = r.calls.0 in
-    if_told_map before.files _ _ (λ x l. rw (l.1, is) (within_many which l.0 l.2)) r.calls.1.is_told
+    if_told_map before.files _ _ (λ x (l : IsLongerThan (limit_of which) name x). rw is (ap (within which) l.1 ∙ within_many which l.0 l.2)) r.calls.1.is_told
 reading_found which name before now (Err Memory) r = tt
 reading_found which name before now (Err Usage) r = absurd r.calls
 reading_found which name before now (Err (Sheet refusal)) r = absurd r.calls

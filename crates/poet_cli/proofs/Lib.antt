@@ -4,6 +4,7 @@ pub mod MayFacts
 pub mod OpeningFacts
 pub mod DoesFacts
 pub mod EndingFacts
+mod WritingFacts
 mod SeenFacts
 mod LengthFacts
 mod AnalysisFacts

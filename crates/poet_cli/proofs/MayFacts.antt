@@ -3,6 +3,7 @@ use Rattle.std.proofs.Common.{◌≡◌, ◌≢◌, ◌⊎◌, ◌↔◌, inl, i
 use Rattle.poet_io.specs.Shelves.{Files, IfTold}
 use Rattle.poet_io.proofs.Telling.{if_told_map}
 use Rattle.task_sheet.specs.SheetParts.{SheetParts}
+use Rattle.task_sheet.specs.Sheets.{task_at}
 use Rattle.task_sheet.specs.declared.refusal.SheetRefusal.{SheetRefusal}
 use Rattle.task_sheet.specs.declared.refusal.SheetRefusal.TheVariants as sheets
 use Rattle.certificate.specs.declared.cert.Cert.{Cert}
@@ -139,7 +140,7 @@ module _ (sheet_name : List ℕ) (which : Source) (name : List ℕ) (Ends : Shee
 analysed_refusal : (sheet : SheetParts) (r : Result Cert AnalyseRefusal) (refusal : Refusal) → analysed_by sheet r ≡ Err refusal → MayRefuse IsSheet IsPointsRefusal refusal
 analysed_refusal sheet (Ok cert) refusal e = absurd (cc)
 analysed_refusal sheet (Err (solver.NoBound i part)) refusal e = absurd (cc)
-analysed_refusal sheet (Err (solver.Points i)) refusal e = let same : Points _ ≡ refusal = cc in subst (MayRefuse IsSheet IsPointsRefusal) same (_, refl)
+analysed_refusal sheet (Err (solver.Points i)) refusal e = let same : Points (task_at sheet i).name ≡ refusal = cc in subst (MayRefuse IsSheet IsPointsRefusal) same ((task_at sheet i).name, refl)
 analysed_refusal sheet (Err solver.Memory) refusal e = let same : Memory ≡ refusal = cc in subst (MayRefuse IsSheet IsPointsRefusal) same tt
 
 simulated_refusal : (r : Result Run SimRefusal) (refusal : Refusal) → simulated_by r ≡ Err refusal → MayRefuse IsSheet IsRunRefusal refusal
@@ -156,15 +157,15 @@ pub does_may : (asked : Option Asked) (before now : ShelfAt) (ending : Ending) �
 does_may asked before now (Ok print) does = tt
 does_may None before now (Err refusal) does = let same : refusal ≡ Usage = cc (does.does) in same
 does_may (Some (CheckOf sheet certificate deadlines)) before now (Err refusal) does =
-    may_two sheet source.Certificate certificate _ before now refusal (λ parts bytes is judges. may_by _ _ (check_by deadlines parts bytes) refusal (λ other e. judged_refusal _ _ is parts _ other e) judges.gives) does
+    may_two sheet source.Certificate certificate _ before now refusal (λ parts bytes is judges. may_by (IsSheetOr source.Certificate sheet before.files) IsNoRefusal (check_by deadlines parts bytes) refusal (λ other e. judged_refusal (IsSheetOr source.Certificate sheet before.files) IsNoRefusal is parts _ other e) judges.gives) does
 does_may (Some (AnalyseOf sheet horizon)) before now (Err refusal) does =
     may_one IsSheet IsPointsRefusal refl sheet _ before now refusal (λ parts judges. may_by IsSheet IsPointsRefusal (analysed_by parts (best_for parts horizon)) refusal (λ other e. analysed_refusal parts _ other e) judges.gives) does
 does_may (Some (SimulateOf sheet mode ticks)) before now (Err refusal) does =
     may_one IsSheet IsRunRefusal refl sheet _ before now refusal (λ parts judges. may_by IsSheet IsRunRefusal (simulated_by (simulation_of (world_for parts mode) ticks)) refusal (λ other e. simulated_refusal _ other e) judges.gives) does
 does_may (Some (AuditOf sheet run)) before now (Err refusal) does =
-    may_two sheet source.Run run _ before now refusal (λ parts bytes is judges. may_by _ _ (audit_by parts bytes) refusal (λ other e. run_refusal _ _ is (run_of_text bytes) _ other e) judges.gives) does
+    may_two sheet source.Run run _ before now refusal (λ parts bytes is judges. may_by (IsSheetOr source.Run sheet before.files) IsNoRefusal (audit_by parts bytes) refusal (λ other e. run_refusal (IsSheetOr source.Run sheet before.files) IsNoRefusal is (run_of_text bytes) _ other e) judges.gives) does
 does_may (Some (ReportOf sheet certificate form)) before now (Err refusal) does =
-    may_two sheet source.Certificate certificate _ before now refusal (λ parts bytes is judges. may_by _ _ (report_by form parts bytes) refusal (λ other e. cert_refusal _ _ is (cert_of_text bytes) _ other e) judges.gives) does
+    may_two sheet source.Certificate certificate _ before now refusal (λ parts bytes is judges. may_by (IsSheetOr source.Certificate sheet before.files) IsNoRefusal (report_by form parts bytes) refusal (λ other e. cert_refusal (IsSheetOr source.Certificate sheet before.files) IsNoRefusal is (cert_of_text bytes) _ other e) judges.gives) does
 does_may (Some (ExerciseOf seed tasks)) before now (Err refusal) does = printed_memory _ refusal does.does.gives
 
 -- no command gives the usage line

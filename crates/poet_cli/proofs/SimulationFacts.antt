@@ -1,5 +1,5 @@
 -- What a simulation that was not refused says of the simulated run.
-use Rattle.std.proofs.Common.{◌≡◌, ℕ, Option, Some, None, Ok, ap, subst}
+use Rattle.std.proofs.Common.{◌≡◌, ℕ, Option, Some, None, List, Ok, refl, ap, subst, ◌∙◌}
 use Rattle.task_sheet.specs.SheetParts.{SheetParts}
 use Rattle.run_model.specs.declared.run.Run.{Run}
 use Rattle.run_text.specs.Text.{text_of}
@@ -9,20 +9,27 @@ use Rattle.simulated_run.specs.SimulatedRun.{World, simulated_run}
 use Rattle.simulated_run.specs.Laws.{IsDense}
 use Rattle.simulator.specs.declared.refusal.SimRefusal.{SimRefusal}
 use Rattle.simulator.specs.Simulations.{refused_by, run_or, simulation_of}
-use Rattle.poet_cli.specs.RunAnswers.{world_for}
+use Rattle.poet_cli.specs.declared.printed.Printed.TheVariants.{Done}
+use Rattle.poet_cli.specs.RunAnswers.{world_for, simulate_by}
 use Rattle.poet_cli.specs.Headline.{RunComplies, SimulationHolds}
+use Rattle.poet_cli.specs.Objections.{Never}
+use Rattle.poet_cli.specs.Program.{Judges}
 
 run_given : (whole run : Run) (limit : Option SimRefusal) → run_or whole limit ≡ Ok run → run ≡ whole
 run_given whole run None e = cc
 run_given whole run (Some limit) e = absurd (cc)
 
--- the text of a simulation that was not refused
-pub simulation_from : (sheet : SheetParts) (mode : Mode) (ticks : ℕ) (run : Run) → simulation_of (world_for sheet mode) ticks ≡ Ok run → RunComplies sheet run → (mode ≡ Dense → IsDense sheet ticks run) → SimulationHolds sheet mode ticks (text_of run)
-simulation_from sheet mode ticks run exact complies full =
+-- a simulation that was not refused, and the text of its run
+pub simulation_judged : (sheet : SheetParts) (mode : Mode) (ticks : ℕ) (run : Run) (text : List ℕ) → text ≡ text_of run → simulation_of (world_for sheet mode) ticks ≡ Ok run → RunComplies sheet run → (mode ≡ Dense → IsDense sheet ticks run) →
+    Judges (simulate_by mode ticks sheet) (SimulationHolds sheet mode ticks) Never (Ok (Done text))
+simulation_judged sheet mode ticks run text same exact complies full =
     let w : World = world_for sheet mode in
     let is : run ≡ simulated_run w ticks = run_given (simulated_run w ticks) run (refused_by (simulated_run w ticks).jobs) exact in
     record {
-      complies = subst (RunComplies sheet) is complies;
-      full = λ dense. subst (IsDense sheet ticks) is (full dense);
-      printed = ap text_of is;
+      gives = rw (exact, same) refl;
+      sound = record {
+        complies = subst (RunComplies sheet) is complies;
+        full = λ dense. subst (IsDense sheet ticks) is (full dense);
+        printed = same ∙ ap text_of is;
+      };
     }

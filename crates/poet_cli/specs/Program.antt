@@ -1,5 +1,5 @@
 -- What the program does for its words: the files that it reads, the answer over them, and which refusals it can give.
-use Rattle.std.specs.Prelude.{◌≡◌, ◌≢◌, ◌⊎◌, ℕ, false, List, Option, Some, None, Err, IsOk, IfOk}
+use Rattle.std.specs.Prelude.{◌≡◌, ◌≢◌, ◌⊎◌, ℕ, Bool, false, List, Option, Some, None, Err, IsOk, IfOk}
 use Rattle.poet_io.specs.Shelves.{Files, IfTold}
 use Rattle.task_sheet.specs.SheetParts.{SheetParts}
 use Rattle.task_sheet.specs.declared.refusal.SheetRefusal.TheVariants as sheets

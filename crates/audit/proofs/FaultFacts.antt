@@ -1,7 +1,6 @@
 -- The first tick that is not valid, the first crowded job and the first short window.
-use Rattle.std.proofs.Common.{◌≡◌, ℕ, zero, suc, ◌+◌, ◌-◌, ◌<◌, ◌≤◌, ◌==◌, ◌&&◌, Bool, true, false, not, length, Some, None, refl, sym, ◌∙◌, ap, subst, inl, inr, arith}
+use Rattle.std.proofs.Common.{◌≡◌, ℕ, zero, suc, ◌+◌, ◌-◌, ◌<◌, ◌≤◌, ◌==◌, ◌&&◌, Bool, true, false, not, length, Some, None, refl, sym, ◌∙◌, ap, inl, inr, arith}
 use Rattle.std.proofs.lemmas.Bool.{and_parts, and_from, both_ways, false_from_ne_true, true_from_ne_false, not-true, not_from_true, not_from_false, eqb-true, eq-eqb}
-use Rattle.lists.specs.Firsts.{must}
 use Rattle.lists.specs.Searches.{IsFirstBelow}
 use Rattle.lists.proofs.FirstFacts.{none_from, none_below, first_stays, must_from, must_holds, must_fails}
 use Rattle.lists.proofs.SumFacts.{max_at_least}

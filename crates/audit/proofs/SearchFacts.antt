@@ -1,5 +1,5 @@
 -- What a search says of the first place at which a test tells a rule broken.
-use Rattle.std.proofs.Common.{◌≡◌, ℕ, ◌<◌, Bool, true, false, not, length, Option, Some, None, MatchOption, sym, ◌∙◌, arith}
+use Rattle.std.proofs.Common.{◌≡◌, ℕ, ◌<◌, Bool, true, false, not, length, Option, Some, None, MatchOption, sym, ◌∙◌}
 use Rattle.std.proofs.lemmas.Bool.{not-true, not_from_true, not_from_false, false_from_ne_true}
 use Rattle.lists.specs.Firsts.{must, first_below}
 use Rattle.lists.specs.Searches.{IsFirstBelow}

@@ -1,7 +1,6 @@
 use Rattle.std.proofs.Common.{◌≡◌, sym, subst}
 use Rattle.run_model.specs.Runs.{job_at}
-use Rattle.windows.specs.Crowds.{IsFirstJob, IsFirstCrowded}
-use Rattle.schedule_laws.specs.Tests.{AreUncrowded}
+use Rattle.windows.specs.Crowds.{IsFirstCrowded}
 use Rattle.audit.proofs.FaultFacts.{crowded_some, crowded_none, uncrowded}
 use Rattle.audit.proofs.ReadFacts.{job_read}
 use Rattle.audit.proofs.jobs.first_crowd.Goals as goal

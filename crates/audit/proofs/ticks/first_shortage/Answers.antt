@@ -1,7 +1,4 @@
-use Rattle.std.proofs.Common.{◌≡◌, ◌+◌, ℕ, true, length, sym, subst}
-use Rattle.lists.specs.Searches.{IsFirstBelow}
-use Rattle.schedule_laws.specs.Tests.{is_short}
-use Rattle.supply.specs.Promises.{sbf_of}
+use Rattle.std.proofs.Common.{sym}
 use Rattle.supply.specs.Lawful.{stated_starts}
 use Rattle.audit.proofs.FaultFacts.{short_some, short_none}
 use Rattle.audit.proofs.ticks.first_shortage.Goals as goal

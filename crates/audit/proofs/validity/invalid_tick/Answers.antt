@@ -1,5 +1,5 @@
 use Rattle.std.proofs.Common.{sym, ◌∙◌, arith, below_more}
-use Rattle.std.proofs.lemmas.Bool.{both_ways, not-false}
+use Rattle.std.proofs.lemmas.Bool.{both_ways}
 use Rattle.audit.proofs.validity.invalid_tick.Goals as goal
 
 pub loop-t-preserved : goal.loop-t-preserved

@@ -9,11 +9,11 @@ use preemption::PerTask;
 use run_model::{Run, Tick};
 use run_text::read_run;
 use schedule_laws::{
-    crowded, fits, idle_broken, priority_broken, segment_broken, short_at, valid_at,
+    crowded, fits, idle_broken, priority_broken, release_broken, segment_broken, short_at, valid_at,
 };
-use std::alloc::Global;
+use std::alloc::{AllocError, Global};
 use std::test::Fail;
-use task_sheet::Sheet;
+use task_sheet::{Job, Sheet};
 
 /// A task `a` and a task `b` that is never preempted.
 const TASKS: &str = "
@@ -112,6 +112,17 @@ const TICKS: [Tick; 8] = [
 
 const VALID: [bool; 8] = [false, false, true, true, false, false, true, true];
 
+/// The task, the arrival and the release of each of two jobs, and which of the two is released as its
+/// task does not allow, where no task has a jitter.
+const RELEASES: [([(u32, u64, u64); 2], [bool; 2]); 5] = [
+    ([(0, 0, 0), (0, 4, 4)], [false, false]),
+    ([(0, 1, 0), (0, 4, 4)], [true, false]),
+    ([(0, 0, 1), (0, 4, 4)], [true, false]),
+    // the later job is released before the earlier one
+    ([(0, 0, 5), (0, 4, 4)], [true, true]),
+    ([(0, 0, 5), (1, 4, 4)], [true, false]),
+];
+
 const OFTEN_OFF: &str = "poet-run 1\njobs 0 ticks 8\noff 2\nidle 2\noff 3\nidle 1\nend\n";
 
 /// Whether every job fits and arrives by 10^9.
@@ -205,6 +216,42 @@ fn jobs_that_fit(rt: HostRuntime) -> Result<(), Fail> {
     let sheet = sheet_of(rt.alloc(), TASKS)?;
     let run = run_of(rt.alloc(), FOUR_JOBS)?;
     assert_eq!(rt; fitting(&sheet, &run), Some([true, false, false, true]));
+    Ok(())
+}
+
+/// A run of no tick with jobs of these tasks, arrivals and releases.
+fn released_run(alloc: Global, jobs: [(u32, u64, u64); 2]) -> Result<Run, AllocError> {
+    let mut list = Vec::new(alloc);
+    for (task, arrival, release) in jobs {
+        list.push(Job {
+            task,
+            arrival,
+            release,
+            cost: 1,
+            segs: Items::new(Vec::new(alloc)),
+        })?;
+    }
+    Ok(Run {
+        jobs: Items::new(list),
+        ticks: Items::new(Vec::new(alloc)),
+    })
+}
+
+/// Which of two jobs that fit are released as their tasks do not allow.
+fn broken_releases(sheet: &Sheet, run: &Run) -> Option<[bool; 2]> {
+    if run.jobs.len() != 2 || !all_fit(sheet, run) {
+        return None;
+    }
+    Some([release_broken(sheet, run, 0), release_broken(sheet, run, 1)])
+}
+
+#[test]
+fn releases(rt: HostRuntime) -> Result<(), Fail> {
+    let sheet = sheet_of(rt.alloc(), TASKS)?;
+    for (jobs, wanted) in RELEASES {
+        let run = released_run(rt.alloc(), jobs)?;
+        assert_eq!(rt; broken_releases(&sheet, &run), Some(wanted), "{jobs:?}");
+    }
     Ok(())
 }
 

@@ -1,13 +1,11 @@
 pub mod SearchFacts
-pub mod TestFacts
 pub mod FaultFacts
 pub mod VerdictFacts
-pub mod FindingFacts
 pub mod ServedFacts
 pub mod ResponseFacts
 pub mod ReadFacts
 pub mod OrderFacts
-pub mod FrontFacts
+pub mod UndoneFacts
 pub mod SegmentFacts
 pub mod WaitFacts
 pub mod CutFacts

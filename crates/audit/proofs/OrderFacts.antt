@@ -1,3 +1,4 @@
+-- Sorting gives the jobs in the order of their arrivals.
 use Rattle.std.proofs.Common.{◌≡◌, ℕ, ◌+◌, ◌<◌, List, [], ◌∷◌, ◌++◌, length, refl, sym, ◌∙◌, ap, subst, inl, inr, arith, All}
 use Rattle.std.specs.List.{Contains}
 use Rattle.std.specs.List.Sorted.{IsPermutation, IsNonDecreasingBy}
@@ -7,15 +8,16 @@ use Rattle.std.proofs.lemmas.List.Elements.{All-get_or, All-from_get_or}
 use Rattle.std.proofs.lemmas.List.Sorted.{All-permutation, Contains-permutation}
 use Rattle.run_model.specs.declared.run.Run.{Run}
 use Rattle.audit.specs.declared.arrivals.Arrival.{Arrival}
-use Rattle.audit.specs.Fronts.{no_arrival, arrival_at, arrival_of, AreArrivals, IsArrival, HasPlace, IsOrder}
+use Rattle.audit.specs.ArrivalOrder.{no_arrival, arrival_at, arrival_of, AreFirstArrivals, IsArrival, HasPlace, IsOrder}
 
-pub arrivals_none : (run : Run) (arrivals : List Arrival) → arrivals ≡ [] → AreArrivals run 0 arrivals
+pub arrivals_none : (run : Run) (arrivals : List Arrival) → arrivals ≡ [] → AreFirstArrivals run 0 arrivals
 arrivals_none run arrivals is = record { count = ap length is; each = λ k b. absurd (omega arith) }
 
 longer : (xs : List Arrival) (a : Arrival) → length (xs ++ a ∷ []) ≡ length xs + 1
 longer xs a = length-append xs (a ∷ [])
 
-pub arrivals_more : (run : Run) (n : ℕ) (arrivals : List Arrival) (a : Arrival) → a ≡ arrival_of run n → AreArrivals run n arrivals → AreArrivals run (n + 1) (arrivals ++ a ∷ [])
+pub arrivals_more : (run : Run) (n : ℕ) (arrivals : List Arrival) (a : Arrival) → a ≡ arrival_of run n →
+    AreFirstArrivals run n arrivals → AreFirstArrivals run (n + 1) (arrivals ++ a ∷ [])
 arrivals_more run n arrivals a is h = record {
   count = omega (arith, longer arrivals a, h.count);
   each = λ k b. elim (cases_lt k n) [
@@ -26,7 +28,7 @@ arrivals_more run n arrivals a is h = record {
   ];
 }
 
-module _ (run : Run) (arrivals order : List Arrival) (given : AreArrivals run (length run.jobs) arrivals) (moved : IsPermutation arrivals order) where
+module _ (run : Run) (arrivals order : List Arrival) (given : AreFirstArrivals run (length run.jobs) arrivals) (moved : IsPermutation arrivals order) where
   all_arrivals : All (IsArrival run) order
   all_arrivals =
       All-permutation (IsArrival run) arrivals order moved

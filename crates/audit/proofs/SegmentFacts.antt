@@ -1,3 +1,4 @@
+-- The one job that may be inside a segment.
 use Rattle.std.proofs.Common.{◌≡◌, ◌≢◌, ℕ, ◌+◌, ◌<◌, Bool, true, false, length, Option, Some, None, refl, sym, ◌∙◌, ap, subst, inl, inr, add-one}
 use Rattle.std.proofs.lemmas.Bool.{cases_eq, both_ways}
 use Rattle.task_sheet.specs.SheetParts.{SheetParts}
@@ -11,15 +12,19 @@ use Rattle.run_model.specs.declared.run.Tick.TheVariants.{Off, Idle, Runs}
 use Rattle.run_model.specs.Runs.{job_at, tick_at}
 use Rattle.run_model.proofs.ServiceFacts.{service_none, step_cases, same_job}
 use Rattle.schedule_laws.specs.Compliance.{can_cut}
-use Rattle.audit.specs.Relations.{AreFitting, IsSegmentTick}
-use Rattle.audit.specs.Fronts.{OnlyFails, Leaves}
+use Rattle.schedule_laws.specs.Tests.{is_segment_broken}
+use Rattle.schedule_laws.proofs.TestFacts.{segment_from, segment_to}
+use Rattle.audit.specs.Premises.{AreFitting}
+use Rattle.audit.specs.TickRules.{IsTick, OnlyFails, Leaves}
 
-only_same : (test new : ℕ → Bool) (n : ℕ) (x : Option ℕ) → ((k : ℕ) → k < n → new k ≡ test k) → OnlyFails test n x → OnlyFails new n x
+only_same : (test new : ℕ → Bool) (n : ℕ) (x : Option ℕ) → ((k : ℕ) → k < n → new k ≡ test k) → OnlyFails test n x →
+    OnlyFails new n x
 only_same test new n None same h = λ k b. same k b ∙ h k b
 only_same test new n (Some j) same h = (h.0, same j h.0 ∙ h.1, (λ k b ne. same k b ∙ h.2 k b ne))
 
 -- where another may not be inside
-others_pass : (test : ℕ → Bool) (n : ℕ) (x : Option ℕ) (j k : ℕ) → OnlyFails test n x → (Leaves (Runs j) x → ⊥) → k < n → k ≢ j → test k ≡ true
+others_pass : (test : ℕ → Bool) (n : ℕ) (x : Option ℕ) (j k : ℕ) → OnlyFails test n x → (Leaves (Runs j) x → ⊥) →
+    k < n → k ≢ j → test k ≡ true
 others_pass test n None j k h stays b ne = h k b
 others_pass test n (Some i) j k h stays b ne = elim (cases_eq j i) [
   | inl e ↦ h.2 k b (λ f. ne (f ∙ sym e))
@@ -39,37 +44,44 @@ module _ (m : CutMeaning) (sheet : SheetParts) (run : Run) (t : ℕ) (inside : t
     | inr gains ↦ absurd (other gains.is)
   ])
 
-  pub inside_same : (x : Option ℕ) → ((k : ℕ) → tick_at run t ≢ Runs k) → OnlyFails cut_at (length run.jobs) x → OnlyFails cut_next (length run.jobs) x
+  pub inside_same : (x : Option ℕ) → ((k : ℕ) → tick_at run t ≢ Runs k) → OnlyFails cut_at (length run.jobs) x →
+      OnlyFails cut_next (length run.jobs) x
   inside_same x quiet h = only_same cut_at cut_next (length run.jobs) x (λ k b. same_cut k (quiet k)) h
 
-  others_cut : (j k : ℕ) (x : Option ℕ) → tick_at run t ≡ Runs j → (Leaves (tick_at run t) x → ⊥) → OnlyFails cut_at (length run.jobs) x → k < length run.jobs → k ≢ j → cut_next k ≡ true
+  others_cut : (j k : ℕ) (x : Option ℕ) → tick_at run t ≡ Runs j → (Leaves (tick_at run t) x → ⊥) →
+      OnlyFails cut_at (length run.jobs) x → k < length run.jobs → k ≢ j → cut_next k ≡ true
   others_cut j k x is stays h b ne =
       same_cut k (λ r. ne (same_job k j (tick_at run t) r is)) ∙ others_pass cut_at (length run.jobs) x j k h (λ l. stays (subst (λ w. Leaves w x) (sym is) l)) b ne
 
   -- after a tick that runs j, which can be cut then
-  pub inside_cut : (j : ℕ) (x : Option ℕ) → tick_at run t ≡ Runs j → (Leaves (tick_at run t) x → ⊥) → OnlyFails cut_at (length run.jobs) x → cut_next j ≡ true → OnlyFails cut_next (length run.jobs) None
+  pub inside_cut : (j : ℕ) (x : Option ℕ) → tick_at run t ≡ Runs j → (Leaves (tick_at run t) x → ⊥) →
+      OnlyFails cut_at (length run.jobs) x → cut_next j ≡ true → OnlyFails cut_next (length run.jobs) None
   inside_cut j x is stays h cut = λ k b. elim (cases_eq k j) [
     | inl e ↦ ap cut_next e ∙ cut
     | inr ne ↦ others_cut j k x is stays h b ne
   ]
 
-  pub inside_uncut : (j : ℕ) (x : Option ℕ) → tick_at run t ≡ Runs j → (Leaves (tick_at run t) x → ⊥) → OnlyFails cut_at (length run.jobs) x → j < length run.jobs → cut_next j ≡ false → OnlyFails cut_next (length run.jobs) (Some j)
+  pub inside_uncut : (j : ℕ) (x : Option ℕ) → tick_at run t ≡ Runs j → (Leaves (tick_at run t) x → ⊥) →
+      OnlyFails cut_at (length run.jobs) x → j < length run.jobs → cut_next j ≡ false →
+      OnlyFails cut_next (length run.jobs) (Some j)
   inside_uncut j x is stays h b cut = (b, cut, (λ k c ne. others_cut j k x is stays h c ne))
 
-  left_at : (x : Option ℕ) (y : Tick) → tick_at run t ≡ y → OnlyFails cut_at (length run.jobs) x → Leaves y x → IsSegmentTick m sheet run t
+  left_at : (x : Option ℕ) (y : Tick) → tick_at run t ≡ y → OnlyFails cut_at (length run.jobs) x → Leaves y x →
+      IsTick (is_segment_broken m sheet run) run t
   left_at None Off e h l = absurd l
   left_at None Idle e h l = absurd l
   left_at None (Runs k) e h l = absurd l
   left_at (Some j) Off e h l = absurd l
-  left_at (Some j) Idle e h l = record { job = j; listed = h.0; broken = record { supplied = λ off. (let two = sym e ∙ off in cc); inside = h.1; other = λ r. (let two = sym e ∙ r in cc) } }
+  left_at (Some j) Idle e h l = record { job = j; listed = h.0; passes = segment_to m sheet run t j (record { supplied = λ off. (let two = sym e ∙ off in cc); inside = h.1; other = λ r. (let two = sym e ∙ r in cc) }) }
   left_at (Some j) (Runs k) e h l = record {
     job = j;
     listed = h.0;
-    broken = record { supplied = λ off. (let two = sym e ∙ off in cc); inside = h.1; other = λ r. l (same_job k j (tick_at run t) e r) };
+    passes = segment_to m sheet run t j (record { supplied = λ off. (let two = sym e ∙ off in cc); inside = h.1; other = λ r. l (same_job k j (tick_at run t) e r) });
   }
 
   -- a tick that leaves the job inside a segment
-  pub left_broken : (x : Option ℕ) → OnlyFails cut_at (length run.jobs) x → Leaves (tick_at run t) x → IsSegmentTick m sheet run t
+  pub left_broken : (x : Option ℕ) → OnlyFails cut_at (length run.jobs) x → Leaves (tick_at run t) x →
+      IsTick (is_segment_broken m sheet run) run t
   left_broken x h l = left_at x (tick_at run t) refl h l
 
   leaves_at : (j : ℕ) (y : Tick) → y ≢ Off → y ≢ Runs j → Leaves y (Some j)
@@ -77,18 +89,24 @@ module _ (m : CutMeaning) (sheet : SheetParts) (run : Run) (t : ℕ) (inside : t
   leaves_at j Idle on other = tt
   leaves_at j (Runs k) on other = λ e. other (ap Runs e)
 
-  kept_at : (x : Option ℕ) → OnlyFails cut_at (length run.jobs) x → (Leaves (tick_at run t) x → ⊥) → IsSegmentTick m sheet run t → ⊥
-  kept_at None h stays w = both_ways (cut_at w.job) w.broken.inside (h w.job w.listed)
-  kept_at (Some j) h stays w = elim (cases_eq w.job j) [
-    | inl e ↦ stays (leaves_at j (tick_at run t) w.broken.supplied (λ r. w.broken.other (r ∙ ap Runs (sym e))))
-    | inr ne ↦ both_ways (cut_at w.job) w.broken.inside (h.2 w.job w.listed ne)
-  ]
+  kept_at : (x : Option ℕ) → OnlyFails cut_at (length run.jobs) x → (Leaves (tick_at run t) x → ⊥) →
+      IsTick (is_segment_broken m sheet run) run t → ⊥
+  kept_at None h stays w = both_ways (cut_at w.job) (segment_from m sheet run t w.job w.passes).inside (h w.job w.listed)
+  kept_at (Some j) h stays w =
+      let broken = segment_from m sheet run t w.job w.passes in
+      elim (cases_eq w.job j) [
+        | inl e ↦ stays (leaves_at j (tick_at run t) broken.supplied (λ r. broken.other (r ∙ ap Runs (sym e))))
+        | inr ne ↦ both_ways (cut_at w.job) broken.inside (h.2 w.job w.listed ne)
+      ]
 
-  pub left_kept : (x : Option ℕ) → OnlyFails cut_at (length run.jobs) x → (Leaves (tick_at run t) x → ⊥) → IsSegmentTick m sheet run t → ⊥
+  pub left_kept : (x : Option ℕ) → OnlyFails cut_at (length run.jobs) x → (Leaves (tick_at run t) x → ⊥) →
+      IsTick (is_segment_broken m sheet run) run t → ⊥
   left_kept x h stays w = kept_at x h stays w
 
 -- before the first tick every job can be cut
-pub inside_none : (m : CutMeaning) (sheet : SheetParts) (run : Run) → ((task : Task) → IsTask task → m.serves task ≡ true → IsLawfulCut m task) → IsValidSheet sheet → Serves m sheet → AreFitting m sheet run →
+pub inside_none : (m : CutMeaning) (sheet : SheetParts) (run : Run) →
+    ((task : Task) → IsTask task → m.serves task ≡ true → IsLawfulCut m task) → IsValidSheet sheet →
+    Serves m sheet → AreFitting m sheet run →
     OnlyFails (λ k. can_cut m sheet run k 0) (length run.jobs) None
 inside_none m sheet run lawful ok served fitting k b =
     let job = fitting k b in

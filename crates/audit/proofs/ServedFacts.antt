@@ -1,3 +1,4 @@
+-- The service of the jobs, one tick later.
 use Rattle.std.proofs.Common.{◌≡◌, ◌≢◌, ℕ, suc, ◌+◌, ◌<◌, ◌≤◌, List, length, get_or, take, drop, ◌++◌, sym, ◌∙◌, ap, subst, inl, inr, arith, add-one, replicate}
 use Rattle.std.proofs.lemmas.Bool.{cases_eq}
 use Rattle.std.proofs.lemmas.List.{get_or-set_same, get_or-set_other, length-set, length-replicate, get_or-replicate, drop_all, append-nil}
@@ -7,13 +8,14 @@ use Rattle.run_model.specs.declared.run.Run.{Run}
 use Rattle.run_model.specs.declared.run.Tick.TheVariants.{Runs}
 use Rattle.run_model.specs.Runs.{tick_at, service_of}
 use Rattle.run_model.proofs.ServiceFacts.{service_none, step_cases, same_job}
-use Rattle.audit.specs.Relations.{IsServed}
+use Rattle.audit.specs.ServiceCounts.{IsServed}
 
 at_next : (run : Run) (k t x : ℕ) → x ≡ service_of run k (suc t) → x ≡ service_of run k (t + 1)
 at_next run k t x h = rw add-one h
 
 -- a tick that runs no job
-pub served_same : (run : Run) (t : ℕ) (served : List ℕ) → t < length run.ticks → ((k : ℕ) → tick_at run t ≢ Runs k) → IsServed run t served → IsServed run (t + 1) served
+pub served_same : (run : Run) (t : ℕ) (served : List ℕ) → t < length run.ticks →
+    ((k : ℕ) → tick_at run t ≢ Runs k) → IsServed run t served → IsServed run (t + 1) served
 served_same run t served b quiet s = record {
   count = s.count;
   each = λ k c. at_next run k t (get_or served k 0) (elim (step_cases run k t b) [
@@ -24,7 +26,9 @@ served_same run t served b quiet s = record {
 }
 
 -- a tick that runs job j
-pub served_run : (run : Run) (t j x : ℕ) (served : List ℕ) → t < length run.ticks → tick_at run t ≡ Runs j → j < length run.jobs → get_or served j 0 ≡ x → IsServed run t served → IsServed run (t + 1) (set served j (x + 1))
+pub served_run : (run : Run) (t j x : ℕ) (served : List ℕ) → t < length run.ticks → tick_at run t ≡ Runs j →
+    j < length run.jobs → get_or served j 0 ≡ x → IsServed run t served →
+    IsServed run (t + 1) (set served j (x + 1))
 served_run run t j x served b is listed at s = record {
   count = omega (arith, length-set served j (x + 1), s.count);
   each = λ k c. at_next run k t (get_or (set served j (x + 1)) k 0) (elim (step_cases run k t b) [
@@ -56,5 +60,6 @@ written xs ys n e f =
     let all : n ≡ length xs = omega arith in
     rw (drop_all (length xs) ys past, append-nil xs, all) (take-length xs)
 
-pub served_written : (run : Run) (t u n : ℕ) (new old : List ℕ) → n ≡ length old → IsServed run t old → IsServed run u new → IsServed run u (take n (new ++ drop (length new) old))
+pub served_written : (run : Run) (t u n : ℕ) (new old : List ℕ) → n ≡ length old → IsServed run t old →
+    IsServed run u new → IsServed run u (take n (new ++ drop (length new) old))
 served_written run t u n new old e before after = subst (IsServed run u) (sym (written new old n e (omega (arith, before.count, after.count)))) after

@@ -12,4 +12,5 @@ sums_from s (x ∷ xs) = s ∷ sums_from (s + x) xs
 -- for each job the sums of its first segments
 pub record AreSums (run : Run) (sums : List (Vec ℕ)) : Type 0 where
   pub count : length sums ≡ length run.jobs
-  pub each : (k : ℕ) (d : Vec ℕ) → k < length run.jobs → (slice_index_or sums k d).items ≡ sums_from 0 (job_at run k).segs
+  pub each : (k : ℕ) (d : Vec ℕ) → k < length run.jobs →
+      (slice_index_or sums k d).items ≡ sums_from 0 (job_at run k).segs

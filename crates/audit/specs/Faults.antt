@@ -12,15 +12,19 @@ use Rattle.run_model.specs.Runs.{job_at, tick_at}
 use Rattle.audit.specs.declared.verdict.Fault.{Fault}
 use Rattle.audit.specs.declared.verdict.Rule.{Rule}
 use Rattle.audit.specs.declared.verdict.Rule.TheVariants as rule
-use Rattle.audit.specs.Tests.{does_fit, may_run, is_crowded, is_short, is_idle_broken, is_segment_broken, is_priority_broken}
+use Rattle.schedule_laws.specs.Tests.{does_fit, may_run, is_crowded, is_short, is_idle_broken, is_segment_broken, is_priority_broken}
 
 -- a rule that job k breaks, at tick t
 abbrev pub fault_at : Rule → ℕ → ℕ → Fault
 fault_at of k t = record { rule = of; job = Some k; tick = Some t }
 
+-- job k does not fit
+abbrev pub unfit : ℕ → Fault
+unfit k = record { rule = rule.Fit; job = Some k; tick = None }
+
 -- the first job that does not fit
 unfoldable pub unfit_in : CutMeaning → SheetParts → Run → Option Fault
-unfit_in m sheet run = first_below (λ k. must (does_fit m sheet run k) (record { rule = rule.Fit; job = Some k; tick = None })) (length run.jobs)
+unfit_in m sheet run = first_below (λ k. must (does_fit m sheet run k) (unfit k)) (length run.jobs)
 
 -- the tick is at fault where it runs a job that may not run at t
 abbrev pub invalid_at : Run → ℕ → Tick → Option Fault
@@ -43,9 +47,13 @@ last_arrival run = max_below (λ k. (job_at run k).arrival) (length run.jobs)
 unfoldable pub crowded_in : SheetParts → Run → Option Fault
 crowded_in sheet run = found_in rule.Curve (λ t k. ((job_at run k).arrival == t) && is_crowded sheet run k) (last_arrival run + 1) (length run.jobs)
 
+-- a window that ends with tick t has too few supplied ticks
+abbrev pub shortage : ℕ → Fault
+shortage t = record { rule = rule.Supply; job = None; tick = Some t }
+
 -- the first end of a window with too few supplied ticks; its last tick is named
 unfoldable pub short_in : (ℕ → ℕ) → Run → Option Fault
-short_in sbf run = first_below (λ u. must (not (is_short sbf run u)) (record { rule = rule.Supply; job = None; tick = Some (u - 1) })) (length run.ticks + 1)
+short_in sbf run = first_below (λ u. must (not (is_short sbf run u)) (shortage (u - 1))) (length run.ticks + 1)
 
 unfoldable pub idle_in : Run → Option Fault
 idle_in run = found_in rule.Idle (is_idle_broken run) (length run.ticks) (length run.jobs)

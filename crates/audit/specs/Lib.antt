@@ -1,7 +1,10 @@
-pub mod Tests
 pub mod Faults
 pub mod Responses
 pub mod Verdicts
-pub mod Relations
-pub mod Fronts
+pub mod Premises
+pub mod ServiceCounts
+pub mod ArrivalOrder
+pub mod UndoneJobs
+pub mod TickRules
 pub mod CutSums
+pub mod NotedResponses

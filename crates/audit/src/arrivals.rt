@@ -1,7 +1,7 @@
 //! The jobs in the order of their arrivals.
 ghost use Rattle.std.specs.Prelude.{IfOk, length};
-ghost use Rattle.audit.specs.Fronts.{AreArrivals, IsOrder};
-ghost use Rattle.audit.specs.Relations.{IsSmall};
+ghost use Rattle.audit.specs.ArrivalOrder.{AreFirstArrivals, IsOrder};
+ghost use Rattle.audit.specs.Premises.{IsSmall};
 
 use run_model::Run;
 use std::alloc::{AllocError, Global};
@@ -16,7 +16,7 @@ pub struct Arrival {
 /// The arrivals of all jobs, by their numbers.
 fn listed_arrivals(alloc: Global, run: &Run) -> Result<Vec<Arrival>, AllocError>
     requires { IsSmall run.now }
-    ensures { IfOk result (λ v. AreArrivals run.now (length run.now.jobs) v.items) }
+    ensures { IfOk result (λ v. AreFirstArrivals run.now (length run.now.jobs) v.items) }
 {
     let mut arrivals = Vec::new(alloc);
     for k in 0..run.jobs.len() as u32 {

@@ -5,7 +5,7 @@ ghost use Rattle.preemption.specs.CutLaws.{Serves};
 ghost use Rattle.run_model.specs.Runs.{job_at};
 ghost use Rattle.schedule_laws.specs.Tests.{AreOf};
 ghost use Rattle.audit.specs.CutSums.{sums_from, AreSums};
-ghost use Rattle.audit.specs.Relations.{AreFitting};
+ghost use Rattle.audit.specs.Premises.{AreFitting};
 
 use preemption::Tabled;
 use run_model::Run;
@@ -66,7 +66,8 @@ pub fn can_cut_job<M: Tabled>(sheet: &Sheet, run: &Run, sums: &[Vec<u64>], k: u3
     requires tasks { AreOf sheet.now run.now }
     requires served { Serves M.cuts sheet.now }
     requires sums { AreSums run.now sums.now }
-    ensures { result ≡ M.cuts.cuttable (task_at sheet.now (job_at run.now k).task) (job_at run.now k) s }
+    ensures { result ≡ M.cuts.cuttable (task_at sheet.now (job_at run.now k).task)
+        (job_at run.now k) s }
 {
     let job = &run.jobs.as_slice()[k as usize];
     can_cut::<M>(sheet.task(job.task), job, &sums[k as usize], s)

@@ -2,7 +2,7 @@
 ghost use Rattle.std.specs.Prelude.{◌≡◌, IfOk, None};
 ghost use Rattle.schedule_laws.specs.Tests.{AreOf, AreUncrowded};
 ghost use Rattle.audit.specs.Faults.{unfit_in, crowded_in};
-ghost use Rattle.audit.specs.Relations.{IsSmall, AreFitting};
+ghost use Rattle.audit.specs.Premises.{IsSmall, AreFitting};
 
 use crate::verdict::{Fault, Rule};
 use preemption::Preemption;

@@ -4,12 +4,12 @@ ghost use Rattle.supply.specs.Promises.{sbf_of};
 ghost use Rattle.preemption.specs.CutLaws.{Serves};
 ghost use Rattle.run_text.specs.Text.{IsWithinLimits};
 ghost use Rattle.audit.specs.Faults.{first_broken as first_broken_of};
-ghost use Rattle.audit.specs.Relations.{IsSmall};
+ghost use Rattle.audit.specs.Premises.{IsSmall};
 ghost use Rattle.audit.specs.Verdicts.{verdict_of, TellsCompliance};
 
 use crate::cuts::cut_sums;
 use crate::jobs::{first_crowd, first_unfit};
-use crate::seen::seen_tasks;
+use crate::responses::seen_tasks;
 use crate::ticks::{first_idling, first_invalid, first_overtaken, first_segment, first_shortage};
 use crate::verdict::{AuditVerdict, Fault};
 use lists::Items;
@@ -28,7 +28,8 @@ fn first_broken<P: Policy, M: Tabled>(
 ) -> Result<Option<Fault>, AllocError>
     requires small { IsSmall run.now }
     requires served { Serves M.cuts sheet.now }
-    ensures { IfOk result (λ f. f ≡ first_broken_of P.meaning M.cuts (sbf_of sheet.now.supply) sheet.now run.now) }
+    ensures { IfOk result (λ f. f ≡
+        first_broken_of P.meaning M.cuts (sbf_of sheet.now.supply) sheet.now run.now) }
 {
     let unfit = first_unfit::<M>(sheet, run);
     if unfit.is_some() {
@@ -71,8 +72,10 @@ pub fn audit<P: Policy, M: Tabled, S: Supply>(
     requires within { IsWithinLimits run.now }
     requires served { Serves M.cuts sheet.now }
     requires stated { S.sbf supply.now ≡ sbf_of sheet.now.supply }
-    ensures exact { IfOk result (λ v. v ≡ verdict_of P.meaning M.cuts (S.sbf supply.now) sheet.now run.now) }
-    ensures compliance { IfOk result (TellsCompliance P.meaning M.cuts (S.sbf supply.now) sheet.now run.now) }
+    ensures exact { IfOk result (λ v. v ≡
+        verdict_of P.meaning M.cuts (S.sbf supply.now) sheet.now run.now) }
+    ensures compliance { IfOk result
+        (TellsCompliance P.meaning M.cuts (S.sbf supply.now) sheet.now run.now) }
 {
     let tasks = sheet.len();
     match first_broken::<P, M>(alloc, sheet, run)? {

@@ -8,11 +8,11 @@ mod jobs;
 mod judging;
 mod laws;
 mod priorities;
-mod progress;
-mod seen;
+mod responses;
 mod segments;
-mod services;
+mod service_counts;
 mod ticks;
+mod undone;
 mod validity;
 mod verdict;
 

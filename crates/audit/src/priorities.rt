@@ -1,24 +1,24 @@
 //! The rule on priorities.
 ghost use Rattle.std.specs.Prelude.{◌≡◌, ◌<◌, ◌↔◌, ℕ, IfOk, IsTrue, length};
 ghost use Rattle.lists.specs.Searches.{IsFirstBelow};
-ghost use Rattle.policy.specs.PolicyLaws.{IsOf};
 ghost use Rattle.preemption.specs.CutLaws.{Serves};
 ghost use Rattle.run_model.specs.Runs.{job_at, tick_at};
 ghost use Rattle.run_model.specs.declared.run.Tick.TheVariants.{Runs};
-ghost use Rattle.schedule_laws.specs.Tests.{AreOf};
+ghost use Rattle.schedule_laws.specs.Tests.{AreOf, is_priority_broken};
 ghost use Rattle.audit.specs.CutSums.{AreSums};
-ghost use Rattle.audit.specs.Fronts.{IsMoreUrgent, IsProgress, IsListed, IsOvertaken};
-ghost use Rattle.audit.specs.Relations.{IsSmall, IsPriorityTick};
+ghost use Rattle.audit.specs.TickRules.{IsMoreUrgent, IsListed, IsOvertaken, IsTick};
+ghost use Rattle.audit.specs.UndoneJobs.{AreUndone};
+ghost use Rattle.audit.specs.Premises.{IsSmall};
 
 use crate::cuts::can_cut_job;
-use crate::progress::Progress;
+use crate::undone::UndoneJobs;
 use policy::{Key, Policy};
 use preemption::Tabled;
 use run_model::{Run, Tick};
 use std::alloc::{AllocError, Global};
 use task_sheet::Sheet;
 
-/// Whether the job, if there is one, has arrived by tick `t` and is more urgent than the key.
+/// Whether the job, if there is one, has been released by tick `t` and is more urgent than the key.
 fn is_more_urgent<P: Policy>(sheet: &Sheet, run: &Run, key: Key, job: Option<u32>, t: u64) -> bool
     requires small { IsSmall run.now }
     requires tasks { AreOf sheet.now run.now }
@@ -28,7 +28,7 @@ fn is_more_urgent<P: Policy>(sheet: &Sheet, run: &Run, key: Key, job: Option<u32
     match job {
         Some(k) => {
             let job = &run.jobs.as_slice()[k as usize];
-            job.arrival <= t && !key.is_at_most(P::key(sheet, job))
+            job.release <= t && !key.is_at_most(P::key(sheet, job))
         }
         None => false,
     }
@@ -38,19 +38,19 @@ fn is_more_urgent<P: Policy>(sheet: &Sheet, run: &Run, key: Key, job: Option<u32
 fn is_overtaken<P: Policy>(
     sheet: &Sheet,
     run: &Run,
-    progress: &mut Progress,
+    undone: &mut UndoneJobs,
     key: Key,
     t: u64,
 ) -> bool
     requires small { IsSmall run.now }
     requires tasks { AreOf sheet.now run.now }
-    requires progress { IsProgress run.now t progress.old }
+    requires undone { AreUndone run.now t undone.old }
     ensures overtaken { IsTrue result ↔ IsOvertaken P.meaning sheet.now run.now key t }
-    ensures progress { IsProgress run.now t progress.new }
+    ensures undone { AreUndone run.now t undone.new }
 {
     let _valid = sheet.len();
-    for o in 0..progress.tasks() {
-        let front = progress.front(run, o);
+    for o in 0..undone.tasks() {
+        let front = undone.front(run, o);
         if is_more_urgent::<P>(sheet, run, key, front, t) {
             return true;
         }
@@ -59,11 +59,11 @@ fn is_overtaken<P: Policy>(
 }
 
 /// Whether tick `t` runs, where it can be cut, a job less urgent than a pending one.
-fn is_priority_broken<P: Policy, M: Tabled>(
+fn breaks_priorities<P: Policy, M: Tabled>(
     sheet: &Sheet,
     run: &Run,
     sums: &[Vec<u64>],
-    progress: &mut Progress,
+    undone: &mut UndoneJobs,
     t: u64,
 ) -> bool
     requires small { IsSmall run.now }
@@ -71,16 +71,17 @@ fn is_priority_broken<P: Policy, M: Tabled>(
     requires tasks { AreOf sheet.now run.now }
     requires served { Serves M.cuts sheet.now }
     requires sums { AreSums run.now sums.now }
-    requires progress { IsProgress run.now t progress.old }
-    ensures broken { IsTrue result ↔ IsPriorityTick P.meaning M.cuts sheet.now run.now t }
-    ensures progress { IsProgress run.now t progress.new }
+    requires undone { AreUndone run.now t undone.old }
+    ensures broken { IsTrue result ↔
+        IsTick (is_priority_broken P.meaning M.cuts sheet.now run.now) run.now t }
+    ensures undone { AreUndone run.now t undone.new }
 {
     let Tick::Runs(k) = run.ticks.as_slice()[t as usize] else {
         return false;
     };
     let job = &run.jobs.as_slice()[k as usize];
-    can_cut_job::<M>(sheet, run, sums, k, progress.served[k as usize])
-        && is_overtaken::<P>(sheet, run, progress, P::key(sheet, job), t)
+    can_cut_job::<M>(sheet, run, sums, k, undone.served[k as usize])
+        && is_overtaken::<P>(sheet, run, undone, P::key(sheet, job), t)
 }
 
 /// The least tick that runs, where it can be cut, a job less urgent than a pending one.
@@ -94,14 +95,16 @@ pub fn priority_tick<P: Policy, M: Tabled>(
     requires tasks { AreOf sheet.now run.now }
     requires served { Serves M.cuts sheet.now }
     requires sums { AreSums run.now sums.now }
-    ensures { IfOk result (IsFirstBelow (IsPriorityTick P.meaning M.cuts sheet.now run.now) (length run.now.ticks)) }
+    ensures { IfOk result (IsFirstBelow
+        (IsTick (is_priority_broken P.meaning M.cuts sheet.now run.now) run.now)
+        (length run.now.ticks)) }
 {
-    let mut progress = Progress::new(alloc, run, sheet.len())?;
+    let mut undone = UndoneJobs::new(alloc, run, sheet.len())?;
     for t in 0..run.ticks.len() as u64 {
-        if is_priority_broken::<P, M>(sheet, run, sums, &mut progress, t) {
+        if breaks_priorities::<P, M>(sheet, run, sums, &mut undone, t) {
             return Ok(Some(t));
         }
-        progress.serve(run, t);
+        undone.serve(run, t);
     }
     Ok(None)
 }

@@ -2,16 +2,16 @@
 ghost use Rattle.std.specs.Prelude.{◌≡◌, ◌+◌, ◌<◌, ◌↔◌, IfOk, IsTrue, cond, length, None, Some};
 ghost use Rattle.lists.specs.Searches.{IsFirstBelow};
 ghost use Rattle.preemption.specs.CutLaws.{Serves};
-ghost use Rattle.policy.specs.PolicyLaws.{IsOf};
 ghost use Rattle.run_model.specs.Runs.{job_at, tick_at};
 ghost use Rattle.schedule_laws.specs.Compliance.{can_cut};
-ghost use Rattle.schedule_laws.specs.Tests.{AreOf};
+ghost use Rattle.schedule_laws.specs.Tests.{AreOf, is_segment_broken};
 ghost use Rattle.audit.specs.CutSums.{AreSums};
-ghost use Rattle.audit.specs.Fronts.{Leaves, OnlyFails};
-ghost use Rattle.audit.specs.Relations.{IsSmall, IsServed, AreFitting, IsSegmentTick};
+ghost use Rattle.audit.specs.TickRules.{Leaves, OnlyFails, IsTick};
+ghost use Rattle.audit.specs.Premises.{IsSmall, AreFitting};
+ghost use Rattle.audit.specs.ServiceCounts.{IsServed};
 
 use crate::cuts::can_cut_job;
-use crate::services::{no_service, serve};
+use crate::service_counts::{no_service, serve};
 use preemption::Tabled;
 use run_model::{Run, Tick};
 use std::alloc::{AllocError, Global};
@@ -43,9 +43,11 @@ fn inside_after<M: Tabled>(
     requires sums { AreSums run.now sums.now }
     requires tick { t < length run.now.ticks }
     requires served { IsServed run.now (t + 1) served.now }
-    requires inside { OnlyFails (λ k. can_cut M.cuts sheet.now run.now k t) (length run.now.jobs) inside }
+    requires inside { OnlyFails (λ k. can_cut M.cuts sheet.now run.now k t)
+        (length run.now.jobs) inside }
     requires stays { Leaves (tick_at run.now t) inside → ⊥ }
-    ensures { OnlyFails (λ k. can_cut M.cuts sheet.now run.now k (t + 1)) (length run.now.jobs) result }
+    ensures { OnlyFails (λ k. can_cut M.cuts sheet.now run.now k (t + 1))
+        (length run.now.jobs) result }
 {
     let Tick::Runs(k) = run.ticks.as_slice()[t as usize] else {
         return inside;
@@ -68,7 +70,8 @@ pub fn segment_tick<M: Tabled>(
     requires fit { AreFitting M.cuts sheet.now run.now }
     requires served { Serves M.cuts sheet.now }
     requires sums { AreSums run.now sums.now }
-    ensures { IfOk result (IsFirstBelow (IsSegmentTick M.cuts sheet.now run.now) (length run.now.ticks)) }
+    ensures { IfOk result (IsFirstBelow
+        (IsTick (is_segment_broken M.cuts sheet.now run.now) run.now) (length run.now.ticks)) }
 {
     let _valid = sheet.len();
     let mut served = no_service(alloc, run)?;

@@ -1,12 +1,11 @@
 //! The rules on ticks.
 ghost use Rattle.std.specs.Prelude.{◌≡◌, ◌+◌, ◌≤◌, IfOk, MatchOption, None, Some, length};
-ghost use Rattle.lists.specs.Searches.{IsFirstBelow};
 ghost use Rattle.preemption.specs.CutLaws.{Serves};
 ghost use Rattle.supply.specs.Promises.{sbf_of};
-ghost use Rattle.schedule_laws.specs.Tests.{AreOf, IsShort, IsValidAt};
+ghost use Rattle.schedule_laws.specs.Tests.{AreOf, is_idle_broken, is_segment_broken, is_priority_broken};
 ghost use Rattle.audit.specs.CutSums.{AreSums};
 ghost use Rattle.audit.specs.Faults.{fault_at, invalid_in, short_in, idle_in, segment_in, priority_in};
-ghost use Rattle.audit.specs.Relations.{IsSmall, AreFitting, AreValid, IsIdleTick, IsSegmentTick, IsPriorityTick};
+ghost use Rattle.audit.specs.Premises.{IsSmall, AreFitting, AreValid};
 
 use crate::idling::idle_tick;
 use crate::priorities::priority_tick;

@@ -1,5 +1,5 @@
 //! A prefix of an arrival curve.
-ghost use Rattle.std.specs.Prelude.{◌≡◌, ◌+◌, ◌*◌, ◌%◌, ◌≤◌, ℕ, IfOk};
+ghost use Rattle.std.specs.Prelude.{◌≡◌, ◌+◌, ◌*◌, ◌%◌, ◌≤◌, ◌↔◌, ℕ, IfOk, IsOk};
 ghost use Rattle.curve.specs.Curves.{alpha_of, periodic as periodic_of, IsRise};
 ghost use Rattle.curve.specs.Stairs.{IsSplit, IsStair};
 ghost use Rattle.curve.specs.Validity.{IsCurve, prefix_check_of};
@@ -62,7 +62,7 @@ impl Prefix {
     /// The prefix of these parts, or the first test that they fail.
     pub fn check(horizon: u64, steps: Vec<Step>) -> Result<Prefix, CurveRefusal>
         ensures checked { result ≡ prefix_check_of horizon steps.items }
-        ensures valid { IfOk result IsCurve }
+        ensures valid { IsOk result ↔ IsCurve (record { horizon = horizon; steps = steps.items }) }
     {
         if horizon == 0 || horizon > 1_000_000_000 {
             return Err(CurveRefusal::Horizon);

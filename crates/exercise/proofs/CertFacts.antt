@@ -62,8 +62,8 @@ none_yet : (seed n : ℕ) → first_entries edf_meaning per_task_meaning (λ d. 
 unfolding first_entries
 none_yet seed n = refl
 
-one_more : (seed n k : ℕ) → k < n → n ≤ 64 → HasEntries seed n k → HasWindow seed n k → HasEntries seed n (suc k)
-one_more seed n k here b before own =
+entry_more : (seed n k : ℕ) → k < n → n ≤ 64 → HasEntries seed n k → HasWindow seed n k → HasEntries seed n (suc k)
+entry_more seed n k here b before own =
     let sheet : SheetParts = generated_sheet seed n in
     let e : Entry = best_of_window edf_meaning per_task_meaning (λ d. d) sheet k own.window in
     let points : length e.points ≤ 6400 =
@@ -84,7 +84,7 @@ one_more seed n k here b before own =
 
 pub has_entries : (seed n k : ℕ) → 1 ≤ n → n ≤ 64 → k ≤ n → HasEntries seed n k
 has_entries seed n zero some few b = record { entries = []; listed = none_yet seed n; count = refl; few = omega arith }
-has_entries seed n (suc k) some few b = one_more seed n k (omega arith) few (has_entries seed n k some few (omega arith)) (has_window seed n k (omega arith) few)
+has_entries seed n (suc k) some few b = entry_more seed n k (omega arith) few (has_entries seed n k some few (omega arith)) (has_window seed n k (omega arith) few)
 
 -- the best certificate
 pub record HasBest (seed n : ℕ) : Type 0 where

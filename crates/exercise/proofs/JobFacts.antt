@@ -1,5 +1,7 @@
 -- A run of a sheet that a seed makes has few jobs, and these few segments.
 use Rattle.std.proofs.Common.{◌≡◌, ℕ, zero, suc, ◌+◌, ◌-◌, ◌*◌, ◌/◌, ◌<◌, ◌≤◌, Bool, true, cond, length, refl, ap, subst, arith}
+use Rattle.std.proofs.lemmas.Bool.{and_from, eq-eqb}
+use Rattle.std.proofs.lemmas.Bool.Decides.{nat_tests}
 use Rattle.std.proofs.lemmas.Nat.{le-div}
 use Rattle.std.proofs.Math.Nat.{mul-le-mul_right, mul-div-le}
 use Rattle.lists.specs.Sums.{sum_below}
@@ -16,8 +18,8 @@ use Rattle.preemption.specs.Lawful.{per_task_lawful, per_task_tabled}
 use Rattle.run_model.specs.declared.run.Run.{Run}
 use Rattle.run_model.specs.Runs.{no_job, job_at}
 use Rattle.run_text.specs.Text.{segments_of}
-use Rattle.schedule_laws.specs.Compliance.{arrivals_of, IsCompliant}
-use Rattle.abstract_rta.proofs.Windows.{in_window, window_from, all_by_task}
+use Rattle.schedule_laws.specs.Compliance.{arrives_in, arrivals_of, IsCompliant}
+use Rattle.abstract_rta.proofs.Windows.{in_window, all_by_task}
 use Rattle.simulated_run.specs.declared.mode.Mode.{Mode}
 use Rattle.simulated_run.specs.SimulatedRun.{World, world_of, simulated_run}
 use Rattle.simulated_run.proofs.Soundness.{IsLawful}
@@ -45,13 +47,17 @@ pub record IsEarlyRun (seed n t : ℕ) (run : Run) : Type 0 where
   pub complies : IsCompliant edf_meaning per_task_meaning (λ d. d) (generated_sheet seed n) run
   pub early : (k : ℕ) → k < length run.jobs → (job_at run k).arrival < t
 
+-- what arrives before t is in the window from 0 to t
+counted_early : (t : ℕ) (j : Job) → j.arrival < t → arrives_in j.task 0 (0 + t) j ≡ true
+counted_early t j h = and_from _ _ (eq-eqb j.task j.task refl) (grind (arith, nat_tests))
+
 jobs_most : (seed n t : ℕ) (run : Run) → 1 ≤ n → IsEarlyRun seed n t run → length run.jobs ≤ n * (t / (2 * n) + 1)
 unfolding arrivals_of
 jobs_most seed n t run some ok =
     let tasks : (k : ℕ) → k < length run.jobs → (job_at run k).task < n = λ k b. omega (arith, (ok.complies.valid.jobs k b).task, sheet_count seed n) in
     let long : 0 + t - 0 ≡ t = omega arith in
     let each =
-    all_by_task (λ o. 1) (λ o. t) 0 n run tasks (λ o. t / (2 * n) + 1)
+    all_by_task (λ o. 1) (λ o. t) (λ o. 0) n run tasks (λ o. t / (2 * n) + 1)
     (λ o b. omega (
       arith,
       ok.complies.curves o 0 (0 + t) (omega (arith, sheet_count seed n)) (omega arith),
@@ -62,7 +68,7 @@ jobs_most seed n t run some ok =
     omega (
       arith,
       each,
-      all_counted (in_window (λ o. t) 0 run) (length run.jobs) (λ k b. window_from (λ o. t) 0 run k (omega arith) (omega (arith, ok.early k b))),
+      all_counted (in_window (λ o. t) (λ o. 0) run) (length run.jobs) (λ k b. counted_early t (job_at run k) (ok.early k b)),
       sum_bound (λ o. 1 * (t / (2 * n) + 1)) (t / (2 * n) + 1) n (λ o b. omega arith),
     )
 

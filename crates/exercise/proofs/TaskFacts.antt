@@ -7,8 +7,7 @@ use Rattle.std.proofs.lemmas.Fmt.{decimal_by_steps, length-decimal-le, decimal_i
 use Rattle.std.proofs.lemmas.List.Folds.{list_all-append}
 use Rattle.std.proofs.lemmas.Nat.{mod_below}
 use Rattle.lists.specs.Ranges.{is_between}
-use Rattle.curve.specs.Curves.{periodic}
-use Rattle.curve.specs.Validity.{IsCurve}
+use Rattle.curve.proofs.CurveFacts.{periodic_valid}
 use Rattle.task_sheet.specs.Limits.{no_point}
 use Rattle.task_sheet.specs.Rules.{is_name, is_in_range, are_in_range}
 use Rattle.task_sheet.specs.Limits.{no_point}
@@ -30,17 +29,6 @@ name_fits : (i : ℕ) → i < 64 → is_name (116 ∷ decimal i) ≡ true
 name_fits i l =
     let short : length (decimal i) ≤ 2 = length-decimal-le 2 i (omega arith) (omega arith) (omega arith) in
     and_from _ _ (between 1 32 (length (116 ∷ decimal i)) (omega arith) (omega arith)) (and_from _ _ (between 33 126 116 (omega arith) (omega arith)) (printable i (omega arith)))
-
-pub curve_valid : (period : ℕ) → 1 ≤ period → period ≤ 1000000000 → IsCurve (periodic period)
-curve_valid period l h = record {
-  horizon_low = l;
-  horizon_high = h;
-  few = omega arith;
-  fit = refl;
-  first = refl;
-  rising = (omega arith, omega arith, tt);
-  within = l;
-}
 
 halves_fit : (cost : ℕ) → 1 ≤ cost → cost ≤ 1000000000 → (are_in_range 1000 (halves cost) ≡ true) × (sum (halves cost) ≡ cost)
 halves_fit cost l h = elim (cases_eq cost 1) [
@@ -73,7 +61,7 @@ task_valid i period cost b l h d g = record {
   priority_high = omega arith;
   jitter_high = omega arith;
   point = no_point;
-  curve = curve_valid period l h;
+  curve = periodic_valid period l h;
   cut = cut_fits (i % 4) cost d g;
 }
 

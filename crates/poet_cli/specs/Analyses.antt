@@ -32,7 +32,8 @@ pub record IsBestBy (p : PolicyMeaning) (sheet : SheetParts) (horizon : ℕ) (ce
   pub sound : AreSound p per_task_meaning (sbf_of sheet.supply) sheet false (bounds_of cert)
   pub least : NoneSmaller p per_task_meaning (sbf_of sheet.supply) sheet cert
 
--- where a task has no bound, no certificate with numbers up to the horizon and a point in each entry meets the conditions
+-- where a task has no window or no bound, no certificate with numbers up to the horizon meets the conditions; for
+-- want of a bound none that has a point in each entry
 abbrev pub IsNoneBy : PolicyMeaning → SheetParts → ℕ → AnalyseRefusal → Type 0
 IsNoneBy p sheet horizon refusal = NoneWhereNoBound p per_task_meaning (sbf_of sheet.supply) sheet horizon refusal
 
@@ -48,11 +49,11 @@ pub record BestHolds (sheet : SheetParts) (horizon : ℕ) (text : List ℕ) : Ty
   pub checks : Checks sheet cert
   pub printed : text ≡ text_of cert
 
--- no certificate with numbers up to the horizon and a point in each entry meets the conditions, by the sheet's own
--- policy; and the text names a task that has no bound, and for want of which part
+-- no certificate with numbers up to the horizon meets the conditions, by the sheet's own policy, for want of a
+-- bound none that has a point in each entry; and the text names a task that has no window or no bound
 pub record NoneHolds (sheet : SheetParts) (horizon : ℕ) (text : List ℕ) : Type 0 where
   pub task : ℕ
   pub part : Part
   pub no_bound : best_for sheet horizon ≡ Err (solver.NoBound task part)
-  pub none : NoneMeets (meaning_of sheet.policy) per_task_meaning (sbf_of sheet.supply) sheet horizon
+  pub none : NoneMeets (meaning_of sheet.policy) per_task_meaning (sbf_of sheet.supply) sheet horizon part
   pub printed : text ≡ no_bound_text (task_at sheet task).name part

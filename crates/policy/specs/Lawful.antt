@@ -73,7 +73,7 @@ edf_lawful sheet ok = record {
       let other = task_at sheet k.task in
       let later = sooner (k.arrival + other.deadline) (j.arrival + own.deadline) l in
       lt-ltb (own.deadline + a) (other.deadline + own.jitter) (omega (arith, tk.after, tj.soon));
-  cap_grows = λ i o a b c d ne h. grind (arith, ints);
+  cap_grows = λ i o a b c d ne h. omega (arith, ints);
   block_falls = λ i o a b c d ne h e. grind (arith, nat_tests);
   cap_limited = λ i o a b c ne h.
       let own : (task_at sheet i).deadline ≤ 1000000000 = (ok.each i b).deadline_high in
@@ -104,7 +104,7 @@ fifo_lawful sheet ok = record {
   blocks = λ start a k j b c tk tj ne e h l.
       let later = sooner k.arrival j.arrival l in
       lt-ltb a (task_at sheet j.task).jitter (omega (arith, tk.after, tj.soon));
-  cap_grows = λ i o a b c d ne h. grind (arith, ints);
+  cap_grows = λ i o a b c d ne h. omega (arith, ints);
   block_falls = λ i o a b c d ne h e. grind (arith, nat_tests);
   cap_limited = λ i o a b c ne h. let other : (task_at sheet o).jitter ≤ 1000000000 = jitter_high (task_at sheet o) (ok.each o c) in omega (arith, ints);
   cap_class = λ i o a b c ne e. absurd (cc);

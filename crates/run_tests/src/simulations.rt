@@ -56,7 +56,7 @@ task = [{ name = 'a', cost = 5, deadline = 10, priority = 1, period = 10, preemp
 ];
 
 /// The text of the simulated run of `n` ticks, at most 100,000.
-fn simulated(alloc: Global, sheet: &str, mode: Mode, n: u64) -> Result<Vec<u8>, Fail> {
+fn text_of_simulation(alloc: Global, sheet: &str, mode: Mode, n: u64) -> Result<Vec<u8>, Fail> {
     let sheet = sheet_of(alloc, sheet)?;
     let run = simulate::<Fp, PerTask, Sheet>(alloc, &sheet, &sheet, mode, n.min(100_000))?;
     Ok(write_run(alloc, &run)?)
@@ -65,7 +65,7 @@ fn simulated(alloc: Global, sheet: &str, mode: Mode, n: u64) -> Result<Vec<u8>, 
 #[test]
 fn runs_are_these(rt: HostRuntime) -> Result<(), Fail> {
     for (sheet, mode, n, text) in ROWS {
-        let run = simulated(rt.alloc(), sheet, mode, n)?;
+        let run = text_of_simulation(rt.alloc(), sheet, mode, n)?;
         assert_eq!(rt; run.as_slice(), text.as_bytes(), "{text}");
     }
     Ok(())

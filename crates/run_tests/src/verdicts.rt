@@ -152,7 +152,7 @@ const OF_SEGMENTS: [Row; 3] = [
 ];
 
 /// The verdict on the run of this text.
-fn judged(alloc: Global, sheet: &str, text: &str) -> Result<AuditVerdict, Fail> {
+fn verdict_on(alloc: Global, sheet: &str, text: &str) -> Result<AuditVerdict, Fail> {
     let sheet = sheet_of(alloc, sheet)?;
     let run = read_run(alloc, text.as_bytes())?;
     Ok(audit::<Fp, PerTask, Sheet>(alloc, &sheet, &sheet, &run)?)
@@ -160,7 +160,7 @@ fn judged(alloc: Global, sheet: &str, text: &str) -> Result<AuditVerdict, Fail> 
 
 fn assert_rows(rt: &impl Abort, alloc: Global, sheet: &str, rows: &[Row]) -> Result<(), Fail> {
     for (text, wanted) in rows {
-        let broken = match judged(alloc, sheet, text)? {
+        let broken = match verdict_on(alloc, sheet, text)? {
             AuditVerdict::Compliant(_) => None,
             AuditVerdict::Broken { rule, job, tick } => Some((rule, job, tick)),
         };
@@ -217,7 +217,7 @@ const COMPLIANT: [(&str, &str, &[Seen]); 2] = [
 fn runs_that_comply(rt: HostRuntime) -> Result<(), Fail> {
     let alloc = rt.alloc();
     for (sheet, text, wanted) in COMPLIANT {
-        let verdict = judged(alloc, sheet, text)?;
+        let verdict = verdict_on(alloc, sheet, text)?;
         let AuditVerdict::Compliant(seen) = verdict else {
             return Err("a rule is broken").map_err(Fail::from);
         };

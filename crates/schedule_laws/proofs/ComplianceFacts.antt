@@ -53,10 +53,12 @@ module _ (p : PolicyMeaning) (m : CutMeaning) (sbf : ℕ → ℕ) (sheet : Sheet
   never_short : IsCompliant p m sbf sheet run → (u : ℕ) → u ≤ length run.ticks → is_short sbf run u ≡ false
   never_short c u l = false_from_ne_true (is_short sbf run u) (λ h. let short = short_from sbf run u h in omega (arith, short.few, c.supplied short.start u short.within l))
 
-  keeps_segments : IsCompliant p m sbf sheet run → (t k : ℕ) → t < length run.ticks → k < length run.jobs → is_segment_broken m sheet run t k ≡ false
+  keeps_segments : IsCompliant p m sbf sheet run → (t k : ℕ) → t < length run.ticks → k < length run.jobs →
+      is_segment_broken m sheet run t k ≡ false
   keeps_segments c t k b listed = false_from_ne_true (is_segment_broken m sheet run t k) (λ h. let left = segment_from m sheet run t k h in left.other (c.segments t k b listed left.supplied left.inside))
 
-  keeps_policy : IsCompliant p m sbf sheet run → (t n : ℕ) → t < length run.ticks → is_priority_broken p m sheet run t n ≡ false
+  keeps_policy : IsCompliant p m sbf sheet run → (t n : ℕ) → t < length run.ticks →
+      is_priority_broken p m sheet run t n ≡ false
   keeps_policy c t n b = false_from_ne_true (is_priority_broken p m sheet run t n) (λ h.
       let w = priority_from p m sheet run t n h in
       let kept = c.policy t w.job n b w.runs w.cut w.waits in

@@ -17,16 +17,22 @@ use Rattle.schedule_laws.specs.Compliance.{arrives_in, arrivals_of, IsWithinCurv
 use Rattle.schedule_laws.specs.Tests.{AreOf, is_within_curve, is_crowded, is_crowded_since, AreUncrowded}
 use Rattle.schedule_laws.proofs.TestFacts.{crowded_from, crowded_to}
 
-same_front : (p q : Job → Bool) (run : Run) (n : ℕ) → n ≤ length run.jobs → ((k : ℕ) → k < n → p (job_at run k) ≡ q (job_at run k)) → count_by p (take n run.jobs) ≡ count_by q (take n run.jobs)
+same_front : (p q : Job → Bool) (run : Run) (n : ℕ) → n ≤ length run.jobs →
+    ((k : ℕ) → k < n → p (job_at run k) ≡ q (job_at run k)) →
+    count_by p (take n run.jobs) ≡ count_by q (take n run.jobs)
 same_front p q run zero h e = refl
 same_front p q run (suc n) h e =
     omega (arith, same_front p q run n (omega arith) (λ k b. e k (omega arith)), count_more p run.jobs no_job n (omega arith), count_more q run.jobs no_job n (omega arith), ap (λ (b : Bool). cond {A = ℕ} b 1 0) (e n (omega arith)))
 
 -- tests that agree on every job count the same
-same_count : (p q : Job → Bool) (run : Run) → ((k : ℕ) → k < length run.jobs → p (job_at run k) ≡ q (job_at run k)) → count_by p run.jobs ≡ count_by q run.jobs
+same_count : (p q : Job → Bool) (run : Run) →
+    ((k : ℕ) → k < length run.jobs → p (job_at run k) ≡ q (job_at run k)) →
+    count_by p run.jobs ≡ count_by q run.jobs
 same_count p q run e = simp take-length at (same_front p q run (length run.jobs) (omega arith) e)
 
-same_arrivals : (run : Run) (o t u v w : ℕ) → ((k : ℕ) → k < length run.jobs → arrives_in o t u (job_at run k) ≡ arrives_in o v w (job_at run k)) → arrivals_of run o t u ≡ arrivals_of run o v w
+same_arrivals : (run : Run) (o t u v w : ℕ) →
+    ((k : ℕ) → k < length run.jobs → arrives_in o t u (job_at run k) ≡ arrives_in o v w (job_at run k)) →
+    arrivals_of run o t u ≡ arrivals_of run o v w
 unfolding arrivals_of
 same_arrivals run o t u v w e = same_count (arrives_in o t u) (arrives_in o v w) run e
 
@@ -46,7 +52,8 @@ unfolding arrivals_of
 arrivals_none run o t = omega (arith, same_count (arrives_in o t (t + 0)) (λ j. false) run (λ k c. in_none o t (job_at run k)), none_passes run)
 
 -- some job of task o arrives at t, or none does
-pub arrival_or_none : (run : Run) (o t : ℕ) → ((k : ℕ) × (k < length run.jobs) × ((job_at run k).task ≡ o) × ((job_at run k).arrival ≡ t)) ⊎ ((k : ℕ) → k < length run.jobs → (job_at run k).task ≡ o → (job_at run k).arrival ≡ t → ⊥)
+pub arrival_or_none : (run : Run) (o t : ℕ) →
+    ((k : ℕ) × (k < length run.jobs) × ((job_at run k).task ≡ o) × ((job_at run k).arrival ≡ t)) ⊎ ((k : ℕ) → k < length run.jobs → (job_at run k).task ≡ o → (job_at run k).arrival ≡ t → ⊥)
 arrival_or_none run o t =
     let found = find_below (λ k. (job_at run k).task ≡ o → (job_at run k).arrival ≡ t → ⊥) (λ k. ((job_at run k).task ≡ o) × ((job_at run k).arrival ≡ t)) (λ k. elim (cases_eq (job_at run k).task o) [
       | inr ne ↦ inl (λ e i. ne e)
@@ -54,28 +61,33 @@ arrival_or_none run o t =
     ]) (length run.jobs) in
     elim found [ inl none ↦ inr none | inr k ↦ inl (k.0, k.1, k.2.0, k.2.1) ]
 
-not_at_end : (o t d : ℕ) (j : Job) → (j.task ≡ o → j.arrival ≡ t + d → ⊥) → arrives_in o t (t + suc d) j ≡ arrives_in o t (t + d) j
+not_at_end : (o t d : ℕ) (j : Job) → (j.task ≡ o → j.arrival ≡ t + d → ⊥) →
+    arrives_in o t (t + suc d) j ≡ arrives_in o t (t + d) j
 not_at_end o t d j h = grind (arith, nat_tests)
 
 not_at_start : (o t u : ℕ) (j : Job) → (j.task ≡ o → j.arrival ≡ t → ⊥) → arrives_in o t u j ≡ arrives_in o (suc t) u j
 not_at_start o t u j h = grind (arith, nat_tests)
 
 -- where no job of task o arrives at t, none arrives in that tick
-pub none_arrive : (run : Run) (o t : ℕ) → ((k : ℕ) → k < length run.jobs → (job_at run k).task ≡ o → (job_at run k).arrival ≡ t → ⊥) → arrivals_of run o t (t + 1) ≡ 0
+pub none_arrive : (run : Run) (o t : ℕ) →
+    ((k : ℕ) → k < length run.jobs → (job_at run k).task ≡ o → (job_at run k).arrival ≡ t → ⊥) →
+    arrivals_of run o t (t + 1) ≡ 0
 none_arrive run o t none = omega (arith, arrivals_none run o t, same_arrivals run o t (t + suc 0) t (t + 0) (λ k c. not_at_end o t 0 (job_at run k) (λ e i. none k c e (omega arith))))
 
 window_length : (t d : ℕ) → t + suc d - t ≡ suc d
 window_length t d = omega arith
 
 -- no window that ends with the arrival of job k has a crowd
-uncrowded_window : (sheet : SheetParts) (run : Run) (k t : ℕ) → is_crowded sheet run k ≡ false → t ≤ (job_at run k).arrival →
+uncrowded_window : (sheet : SheetParts) (run : Run) (k t : ℕ) → is_crowded sheet run k ≡ false →
+    t ≤ (job_at run k).arrival →
     arrivals_of run (job_at run k).task t ((job_at run k).arrival + 1) ≤ alpha_of (task_at sheet (job_at run k).task).curve ((job_at run k).arrival + 1 - t)
 unfolding is_crowded
 uncrowded_window sheet run k t free h = leb-true _ _ (all_parts (is_within_curve sheet run k) ((job_at run k).arrival + 1) t (not-false _ free) (omega arith))
 
 module _ (sheet : SheetParts) (ok : IsValidSheet sheet) (run : Run) where
   -- a window that begins where nothing arrives has a crowd only if the next one has
-  crowded_next : (k t : ℕ) → IsOf sheet (job_at run k) → t < (job_at run k).arrival → ((n : ℕ) → n < length run.jobs → (job_at run n).task ≡ (job_at run k).task → (job_at run n).arrival ≡ t → ⊥) →
+  crowded_next : (k t : ℕ) → IsOf sheet (job_at run k) → t < (job_at run k).arrival →
+      ((n : ℕ) → n < length run.jobs → (job_at run n).task ≡ (job_at run k).task → (job_at run n).arrival ≡ t → ⊥) →
       is_within_curve sheet run k t ≡ false → is_within_curve sheet run k (suc t) ≡ false
   crowded_next k t of h none many =
       let o = (job_at run k).task in
@@ -87,20 +99,24 @@ module _ (sheet : SheetParts) (ok : IsValidSheet sheet) (run : Run) where
         same_arrivals run o t (b + 1) (suc t) (b + 1) (λ n c. not_at_start o t (b + 1) (job_at run n) (none n c)),
       ))
 
-  since_from : (k n t : ℕ) → (job_at run n).task ≡ (job_at run k).task → (job_at run n).arrival ≡ t → t ≤ (job_at run k).arrival → is_within_curve sheet run k t ≡ false → is_crowded_since sheet run k n ≡ true
+  since_from : (k n t : ℕ) → (job_at run n).task ≡ (job_at run k).task → (job_at run n).arrival ≡ t →
+      t ≤ (job_at run k).arrival → is_within_curve sheet run k t ≡ false → is_crowded_since sheet run k n ≡ true
   since_from k n t same at h many =
       and_from _ _ (eq-eqb (job_at run n).task (job_at run k).task same)
       (and_from _ _ (le-leb (job_at run n).arrival (job_at run k).arrival (omega arith)) (not_from_false _ (subst (λ w. is_within_curve sheet run k w ≡ false) (sym at) many)))
 
   -- windows that begin at an arrival suffice
-  begins : (k t d : ℕ) → k < length run.jobs → IsOf sheet (job_at run k) → t + d ≡ (job_at run k).arrival → ((n : ℕ) → n < length run.jobs → is_crowded_since sheet run k n ≡ false) → is_within_curve sheet run k t ≡ false → ⊥
+  begins : (k t d : ℕ) → k < length run.jobs → IsOf sheet (job_at run k) → t + d ≡ (job_at run k).arrival →
+      ((n : ℕ) → n < length run.jobs → is_crowded_since sheet run k n ≡ false) →
+      is_within_curve sheet run k t ≡ false → ⊥
   begins k t zero b of e free many = both_ways _ (free k b) (since_from k k t refl (omega arith) (omega arith) many)
   begins k t (suc d) b of e free many = elim (arrival_or_none run (job_at run k).task t) [
     | inl n ↦ both_ways _ (free n.0 n.1) (since_from k n.0 t n.2 n.3 (omega arith) many)
     | inr none ↦ begins k (suc t) d b of (omega arith) free (crowded_next k t of (omega arith) none many)
   ]
 
-  pub begins_suffice : (k : ℕ) → k < length run.jobs → IsOf sheet (job_at run k) → ((n : ℕ) → n < length run.jobs → is_crowded_since sheet run k n ≡ false) → is_crowded sheet run k ≡ false
+  pub begins_suffice : (k : ℕ) → k < length run.jobs → IsOf sheet (job_at run k) →
+      ((n : ℕ) → n < length run.jobs → is_crowded_since sheet run k n ≡ false) → is_crowded sheet run k ≡ false
   begins_suffice k b of free = false_from_ne_true (is_crowded sheet run k) (λ h.
       let c = crowded_from sheet run k h in
       begins k c.start ((job_at run k).arrival - c.start) b of (omega (arith, c.within)) free (lt-leb _ _ c.many))
@@ -113,7 +129,8 @@ module _ (sheet : SheetParts) (ok : IsValidSheet sheet) (run : Run) where
       crowded_to sheet run k (record { start = (job_at run n).arrival; within = leb-true (job_at run n).arrival (job_at run k).arrival late.0; many = leb-false _ _ (not-true _ late.1) })
 
   -- windows that end with an arrival suffice
-  windows : AreUncrowded sheet run → (o t d : ℕ) → o < length sheet.tasks → arrivals_of run o t (t + d) ≤ alpha_of (task_at sheet o).curve d
+  windows : AreUncrowded sheet run → (o t d : ℕ) → o < length sheet.tasks →
+      arrivals_of run o t (t + d) ≤ alpha_of (task_at sheet o).curve d
   windows free o t zero b = omega (arith, arrivals_none run o t)
   windows free o t (suc d) b = elim (arrival_or_none run o (t + d)) [
     | inl k ↦

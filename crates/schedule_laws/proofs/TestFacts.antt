@@ -21,18 +21,22 @@ use Rattle.schedule_laws.specs.Tests.{does_fit, is_before, is_timely, is_overtak
 
 -- jobs
 
-pub fit_from : (m : CutMeaning) (sheet : SheetParts) (run : Run) (k : ℕ) → does_fit m sheet run k ≡ true → JobFits m sheet run k
+pub fit_from : (m : CutMeaning) (sheet : SheetParts) (run : Run) (k : ℕ) → does_fit m sheet run k ≡ true →
+    JobFits m sheet run k
 fit_from m sheet run k h =
     let parts = and_parts (ltb (job_at run k).task (length sheet.tasks)) (m.fits (task_at sheet (job_at run k).task) (job_at run k)) h in
     record { task = ltb-true (job_at run k).task (length sheet.tasks) parts.0; fit = parts.1 }
 
-pub fit_to : (m : CutMeaning) (sheet : SheetParts) (run : Run) (k : ℕ) → JobFits m sheet run k → does_fit m sheet run k ≡ true
+pub fit_to : (m : CutMeaning) (sheet : SheetParts) (run : Run) (k : ℕ) → JobFits m sheet run k →
+    does_fit m sheet run k ≡ true
 fit_to m sheet run k f = and_from _ _ (lt-ltb (job_at run k).task (length sheet.tasks) f.task) f.fit
 
-before_to : (run : Run) (n k : ℕ) → (job_at run n).task ≡ (job_at run k).task → (job_at run n).arrival < (job_at run k).arrival → is_before run n k ≡ true
+before_to : (run : Run) (n k : ℕ) → (job_at run n).task ≡ (job_at run k).task →
+    (job_at run n).arrival < (job_at run k).arrival → is_before run n k ≡ true
 before_to run n k same earlier = and_from _ _ (eq-eqb (job_at run n).task (job_at run k).task same) (lt-ltb (job_at run n).arrival (job_at run k).arrival earlier)
 
-before_from : (run : Run) (n k : ℕ) → is_before run n k ≡ true → ((job_at run n).task ≡ (job_at run k).task) × ((job_at run n).arrival < (job_at run k).arrival)
+before_from : (run : Run) (n k : ℕ) → is_before run n k ≡ true →
+    ((job_at run n).task ≡ (job_at run k).task) × ((job_at run n).arrival < (job_at run k).arrival)
 before_from run n k h =
     let parts = and_parts ((job_at run n).task == (job_at run k).task) (ltb (job_at run n).arrival (job_at run k).arrival) h in
     (eqb-true (job_at run n).task (job_at run k).task parts.0, ltb-true (job_at run n).arrival (job_at run k).arrival parts.1)
@@ -46,16 +50,20 @@ timely_to : (sheet : SheetParts) (j : Job) → IsTimely sheet j → is_timely sh
 timely_to sheet j h = and_from _ _ (le-leb j.arrival j.release h.after) (le-leb j.release (j.arrival + (task_at sheet j.task).jitter) h.soon)
 
 -- where no job before k passes the test, what it says holds of none
-none_before : (run : Run) (k n : ℕ) (late : Bool) → (is_before run n k && late) ≡ false → (job_at run n).task ≡ (job_at run k).task → (job_at run n).arrival < (job_at run k).arrival → late ≡ false
+none_before : (run : Run) (k n : ℕ) (late : Bool) → (is_before run n k && late) ≡ false →
+    (job_at run n).task ≡ (job_at run k).task → (job_at run n).arrival < (job_at run k).arrival → late ≡ false
 none_before run k n late h same earlier = false_from_ne_true late (λ l. both_ways (is_before run n k && late) h (and_from (is_before run n k) late (before_to run n k same earlier) l))
 
-before_none : (run : Run) (k n : ℕ) (late : Bool) → ((job_at run n).task ≡ (job_at run k).task → (job_at run n).arrival < (job_at run k).arrival → late ≡ false) → (is_before run n k && late) ≡ false
+before_none : (run : Run) (k n : ℕ) (late : Bool) →
+    ((job_at run n).task ≡ (job_at run k).task → (job_at run n).arrival < (job_at run k).arrival → late ≡ false) →
+    (is_before run n k && late) ≡ false
 before_none run k n late h = false_from_ne_true (is_before run n k && late) (λ both.
     let parts = and_parts (is_before run n k) late both in
     let before = before_from run n k parts.0 in
     both_ways late (h before.0 before.1) parts.1)
 
-pub released_from : (sheet : SheetParts) (run : Run) (k : ℕ) → is_release_broken sheet run k ≡ false → IsReleased sheet run k
+pub released_from : (sheet : SheetParts) (run : Run) (k : ℕ) → is_release_broken sheet run k ≡ false →
+    IsReleased sheet run k
 unfolding is_release_broken
 released_from sheet run k h =
     let parts = and_parts (is_timely sheet (job_at run k)) (all_below (λ n. not (is_overtaken run k n)) (length run.jobs)) (not-false _ h) in
@@ -64,7 +72,8 @@ released_from sheet run k h =
       order = λ n b same earlier. ltb-false (job_at run k).release (job_at run n).release (none_before run k n _ (not-true (is_overtaken run k n) (all_parts (λ i. not (is_overtaken run k i)) (length run.jobs) n parts.1 b)) same earlier);
     }
 
-pub released_to : (sheet : SheetParts) (run : Run) (k : ℕ) → IsReleased sheet run k → is_release_broken sheet run k ≡ false
+pub released_to : (sheet : SheetParts) (run : Run) (k : ℕ) → IsReleased sheet run k →
+    is_release_broken sheet run k ≡ false
 unfolding is_release_broken
 released_to sheet run k r =
     not_from_true _ (and_from _ _ (timely_to sheet (job_at run k) r.timely)
@@ -72,15 +81,18 @@ released_to sheet run k r =
 
 -- what decides whether job k is released as its task allows
 
-pub untimely_breaks : (sheet : SheetParts) (run : Run) (k : ℕ) → is_timely sheet (job_at run k) ≡ false → is_release_broken sheet run k ≡ true
+pub untimely_breaks : (sheet : SheetParts) (run : Run) (k : ℕ) → is_timely sheet (job_at run k) ≡ false →
+    is_release_broken sheet run k ≡ true
 unfolding is_release_broken
 untimely_breaks sheet run k h = not_from_false _ (and_left _ _ h)
 
-pub overtaken_breaks : (sheet : SheetParts) (run : Run) (k n : ℕ) → n < length run.jobs → is_overtaken run k n ≡ true → is_release_broken sheet run k ≡ true
+pub overtaken_breaks : (sheet : SheetParts) (run : Run) (k n : ℕ) → n < length run.jobs →
+    is_overtaken run k n ≡ true → is_release_broken sheet run k ≡ true
 unfolding is_release_broken
 overtaken_breaks sheet run k n b h = not_from_false _ (and_right _ _ (all_broken (λ i. not (is_overtaken run k i)) (length run.jobs) n b (not_from_true (is_overtaken run k n) h)))
 
-pub never_overtaken : (sheet : SheetParts) (run : Run) (k : ℕ) → is_timely sheet (job_at run k) ≡ true → ((n : ℕ) → n < length run.jobs → is_overtaken run k n ≡ false) → is_release_broken sheet run k ≡ false
+pub never_overtaken : (sheet : SheetParts) (run : Run) (k : ℕ) → is_timely sheet (job_at run k) ≡ true →
+    ((n : ℕ) → n < length run.jobs → is_overtaken run k n ≡ false) → is_release_broken sheet run k ≡ false
 unfolding is_release_broken
 never_overtaken sheet run k timely free = not_from_true _ (and_from _ _ timely (all_from (λ i. not (is_overtaken run k i)) (length run.jobs) (λ i b. not_from_false (is_overtaken run k i) (free i b))))
 
@@ -119,7 +131,8 @@ pub held_back : (run : Run) (k t n : ℕ) → n < length run.jobs → holds_back
 unfolding may_run
 held_back run k t n b h = and_right _ _ (all_broken (λ i. not (holds_back run k t i)) (length run.jobs) n b (not_from_true (holds_back run k t n) h))
 
-pub free_to_run : (run : Run) (k t : ℕ) → IsPending run k t → ((n : ℕ) → n < length run.jobs → holds_back run k t n ≡ false) → may_run run k t ≡ true
+pub free_to_run : (run : Run) (k t : ℕ) → IsPending run k t →
+    ((n : ℕ) → n < length run.jobs → holds_back run k t n ≡ false) → may_run run k t ≡ true
 unfolding may_run
 free_to_run run k t waits free = and_from _ _ (pending_to run k t waits) (all_from (λ i. not (holds_back run k t i)) (length run.jobs) (λ i b. not_from_false (holds_back run k t i) (free i b)))
 
@@ -134,8 +147,15 @@ may_be_to run t (Runs k) h = may_run_to run k t (h k refl)
 pub valid_to : (run : Run) (t : ℕ) → ((k : ℕ) → tick_at run t ≡ Runs k → MayRun run k t) → is_valid_at run t ≡ true
 valid_to run t h = may_be_to run t (tick_at run t) h
 
+-- a test of what runs at t is the definition's
+pub valid_by : (run : Run) (t k : ℕ) (b : Bool) → tick_at run t ≡ Runs k → ((b ≡ true) ↔ MayRun run k t) →
+    b ≡ is_valid_at run t
+valid_by run t k true e h = sym (ap (may_be_at run t) e ∙ may_run_to run k t (h.0 refl))
+valid_by run t k false e h = sym (false_from_ne_true (is_valid_at run t) (λ v. true≢false (sym (h.1 (valid_from run t k v e)))))
+
 -- what a valid tick runs is a job of the list
-pub valid_named : (run : Run) (t : ℕ) → is_valid_at run t ≡ true → (k : ℕ) → tick_at run t ≡ Runs k → k < length run.jobs
+pub valid_named : (run : Run) (t : ℕ) → is_valid_at run t ≡ true → (k : ℕ) → tick_at run t ≡ Runs k →
+    k < length run.jobs
 valid_named run t valid k e = (valid_from run t k valid e).pending.listed
 
 -- windows
@@ -205,7 +225,8 @@ pub record IsLeftInside (m : CutMeaning) (sheet : SheetParts) (run : Run) (t k :
   pub inside : can_cut m sheet run k t ≡ false
   pub other : tick_at run t ≢ Runs k
 
-pub segment_from : (m : CutMeaning) (sheet : SheetParts) (run : Run) (t k : ℕ) → is_segment_broken m sheet run t k ≡ true → IsLeftInside m sheet run t k
+pub segment_from : (m : CutMeaning) (sheet : SheetParts) (run : Run) (t k : ℕ) →
+    is_segment_broken m sheet run t k ≡ true → IsLeftInside m sheet run t k
 unfolding is_segment_broken
 segment_from m sheet run t k h =
     let parts = and_parts (is_on (tick_at run t)) (not (runs k (tick_at run t)) && not (can_cut m sheet run k t)) h in
@@ -216,7 +237,8 @@ segment_from m sheet run t k h =
       other = λ e. both_ways (runs k (tick_at run t)) (not-true (runs k (tick_at run t)) more.0) (runs_self k (tick_at run t) e);
     }
 
-pub segment_to : (m : CutMeaning) (sheet : SheetParts) (run : Run) (t k : ℕ) → IsLeftInside m sheet run t k → is_segment_broken m sheet run t k ≡ true
+pub segment_to : (m : CutMeaning) (sheet : SheetParts) (run : Run) (t k : ℕ) → IsLeftInside m sheet run t k →
+    is_segment_broken m sheet run t k ≡ true
 unfolding is_segment_broken
 segment_to m sheet run t k b =
     let not_run : runs k (tick_at run t) ≡ false = false_from_ne_true (runs k (tick_at run t)) (λ r. b.other (runs_tells k (tick_at run t) r)) in
@@ -230,7 +252,8 @@ pub record IsMoreUrgent (p : PolicyMeaning) (m : CutMeaning) (sheet : SheetParts
   pub waits : IsPending run n t
   pub urgent : key_le (p.key sheet (job_at run job)) (p.key sheet (job_at run n)) ≡ false
 
-urgent_from : (p : PolicyMeaning) (m : CutMeaning) (sheet : SheetParts) (run : Run) (t n : ℕ) (x : Tick) → tick_at run t ≡ x → is_more_urgent p m sheet run t n x ≡ true → IsMoreUrgent p m sheet run t n
+urgent_from : (p : PolicyMeaning) (m : CutMeaning) (sheet : SheetParts) (run : Run) (t n : ℕ) (x : Tick) →
+    tick_at run t ≡ x → is_more_urgent p m sheet run t n x ≡ true → IsMoreUrgent p m sheet run t n
 urgent_from p m sheet run t n Off e h = absurd (cc)
 urgent_from p m sheet run t n Idle e h = absurd (cc)
 urgent_from p m sheet run t n (Runs k) e h =
@@ -238,11 +261,13 @@ urgent_from p m sheet run t n (Runs k) e h =
     let more = and_parts (is_pending run n t) (not (key_le (p.key sheet (job_at run k)) (p.key sheet (job_at run n)))) parts.1 in
     record { job = k; runs = e; cut = parts.0; waits = pending_from run n t more.0; urgent = not-true (key_le (p.key sheet (job_at run k)) (p.key sheet (job_at run n))) more.1 }
 
-pub priority_from : (p : PolicyMeaning) (m : CutMeaning) (sheet : SheetParts) (run : Run) (t n : ℕ) → is_priority_broken p m sheet run t n ≡ true → IsMoreUrgent p m sheet run t n
+pub priority_from : (p : PolicyMeaning) (m : CutMeaning) (sheet : SheetParts) (run : Run) (t n : ℕ) →
+    is_priority_broken p m sheet run t n ≡ true → IsMoreUrgent p m sheet run t n
 unfolding is_priority_broken
 priority_from p m sheet run t n h = urgent_from p m sheet run t n (tick_at run t) refl h
 
-pub priority_to : (p : PolicyMeaning) (m : CutMeaning) (sheet : SheetParts) (run : Run) (t n : ℕ) → IsMoreUrgent p m sheet run t n → is_priority_broken p m sheet run t n ≡ true
+pub priority_to : (p : PolicyMeaning) (m : CutMeaning) (sheet : SheetParts) (run : Run) (t n : ℕ) →
+    IsMoreUrgent p m sheet run t n → is_priority_broken p m sheet run t n ≡ true
 unfolding is_priority_broken
 priority_to p m sheet run t n b =
     ap (is_more_urgent p m sheet run t n) b.runs ∙ and_from _ _ b.cut (and_from _ _ (pending_to run n t b.waits) (not_from_false (key_le (p.key sheet (job_at run b.job)) (p.key sheet (job_at run n))) b.urgent))

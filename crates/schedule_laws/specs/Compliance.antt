@@ -30,12 +30,14 @@ pub record JobFits (m : CutMeaning) (sheet : SheetParts) (run : Run) (k : ℕ) :
 -- job k is released within its task's jitter, and no job of its task that arrives earlier is released later
 pub record IsReleased (sheet : SheetParts) (run : Run) (k : ℕ) : Type 0 where
   pub timely : IsTimely sheet (job_at run k)
-  pub order : (n : ℕ) → n < length run.jobs → (job_at run n).task ≡ (job_at run k).task → (job_at run n).arrival < (job_at run k).arrival → (job_at run n).release ≤ (job_at run k).release
+  pub order : (n : ℕ) → n < length run.jobs → (job_at run n).task ≡ (job_at run k).task →
+      (job_at run n).arrival < (job_at run k).arrival → (job_at run n).release ≤ (job_at run k).release
 
 -- tick t runs job k: it is pending, and the jobs of its task that arrived earlier are done
 pub record MayRun (run : Run) (k t : ℕ) : Type 0 where
   pub pending : IsPending run k t
-  pub in_order : (n : ℕ) → n < length run.jobs → (job_at run n).task ≡ (job_at run k).task → (job_at run n).arrival < (job_at run k).arrival → IsDone run n t
+  pub in_order : (n : ℕ) → n < length run.jobs → (job_at run n).task ≡ (job_at run k).task →
+      (job_at run n).arrival < (job_at run k).arrival → IsDone run n t
 
 -- every job fits and is released as its task allows, and every tick that runs a job may run it
 pub record IsValidRun (m : CutMeaning) (sheet : SheetParts) (run : Run) : Type 0 where

@@ -30,7 +30,8 @@ fn is_idle_broken(run: &Run, t: u64, k: u32) -> bool
 pub fn idle_broken(run: &Run, t: u64) -> Option<u32>
     requires few { length run.now.jobs < 2 ^ 32 }
     requires tick { t < length run.now.ticks }
-    ensures { IsFirstBelow (λ k. is_idle_broken_by run.now t k ≡ true) (length run.now.jobs) result }
+    ensures { IsFirstBelow (λ k. is_idle_broken_by run.now t k ≡ true)
+        (length run.now.jobs) result }
 {
     for k in 0..run.jobs.len() as u32 {
         if is_idle_broken(run, t, k) {
@@ -71,7 +72,8 @@ pub fn segment_broken<M: Preemption>(sheet: &Sheet, run: &Run, t: u64) -> Option
     requires few { length run.now.jobs < 2 ^ 32 }
     requires tick { t < length run.now.ticks }
     requires tasks { AreOf sheet.now run.now }
-    ensures { IsFirstBelow (λ k. is_segment_broken_by M.cuts sheet.now run.now t k ≡ true) (length run.now.jobs) result }
+    ensures { IsFirstBelow (λ k. is_segment_broken_by M.cuts sheet.now run.now t k ≡ true)
+        (length run.now.jobs) result }
 {
     for k in 0..run.jobs.len() as u32 {
         if is_segment_broken::<M>(sheet, run, t, k) {
@@ -87,7 +89,8 @@ fn is_as_urgent<P: Policy>(sheet: &Sheet, run: &Run, k: u32, n: u32) -> bool
     requires other { n < length run.now.jobs }
     requires tasks { AreOf sheet.now run.now }
     requires arrivals { AreEarly run.now }
-    ensures { result ≡ key_le (P.meaning.key sheet.now (job_at run.now k)) (P.meaning.key sheet.now (job_at run.now n)) }
+    ensures { result ≡ key_le (P.meaning.key sheet.now (job_at run.now k))
+        (P.meaning.key sheet.now (job_at run.now n)) }
 {
     let jobs = run.jobs.as_slice();
     P::key(sheet, &jobs[k as usize]).is_at_most(P::key(sheet, &jobs[n as usize]))
@@ -116,7 +119,8 @@ pub fn priority_broken<P: Policy, M: Preemption>(sheet: &Sheet, run: &Run, t: u6
     requires tasks { AreOf sheet.now run.now }
     requires named { (k : ℕ) → tick_at run.now t ≡ Runs k → k < length run.now.jobs }
     requires arrivals { AreEarly run.now }
-    ensures { IsFirstBelow (λ n. is_priority_broken_by P.meaning M.cuts sheet.now run.now t n ≡ true) (length run.now.jobs) result }
+    ensures { IsFirstBelow (λ n. is_priority_broken_by P.meaning M.cuts sheet.now run.now t n ≡ true)
+        (length run.now.jobs) result }
 {
     for n in 0..run.jobs.len() as u32 {
         if is_priority_broken::<P, M>(sheet, run, t, n) {

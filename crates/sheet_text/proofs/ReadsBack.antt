@@ -1,6 +1,6 @@
 -- What is printed reads again.
 use Rattle.std.proofs.Common.{◌≡◌, ℕ, ℤ, pos, ◌+◌, ◌<◌, ◌≤◌, true, suc, List, [], ◌∷◌, ◌++◌, length, length-append, get_or, map, refl, ap, ◌∙◌, arith, append_assoc, Some, Ok}
-use Rattle.std.proofs.lemmas.Bool.{and_from, le-leb, eq-eqb, lt-ltb}
+use Rattle.std.proofs.lemmas.Bool.{and_from, le-leb}
 use Rattle.std.proofs.lemmas.List.{append-nil, map_push}
 use Rattle.std.proofs.lemmas.Int.{ints}
 use Rattle.toml.specs.Text.{are_tables}
@@ -9,7 +9,8 @@ use Rattle.toml.specs.View.{items_of}
 use Rattle.lists.specs.Ranges.{is_between}
 use Rattle.curve.specs.declared.prefix.Step.{Step}
 use Rattle.curve.specs.CurveValue.{Curve}
-use Rattle.curve.specs.Validity.{starts_at_one, rise_from, last_time, prefix_check_of as curve_check, StartsAtOne, RiseFrom, IsCurve}
+use Rattle.curve.specs.Validity.{IsCurve}
+use Rattle.curve.proofs.CurveFacts.{curve_passes}
 use Rattle.task_sheet.specs.declared.tasks.PolicyKind.{PolicyKind}
 use Rattle.task_sheet.specs.declared.tasks.PolicyKind.TheVariants.{Fp, Edf, Fifo}
 use Rattle.task_sheet.specs.declared.tasks.SupplySpec.{SupplySpec}
@@ -38,22 +39,6 @@ numbers_again (x ∷ xs) = rw (numbers_again xs) refl
 steps_again : (xs : List Step) → all_of step_of (items_of (map step_data xs)) ≡ Some xs
 steps_again [] = refl
 steps_again (x ∷ xs) = rw (steps_again xs) refl
-
--- a valid curve passes its tests
-starts_test : (steps : List Step) → StartsAtOne steps → (starts_at_one steps ≡ true) × (1 ≤ length steps)
-starts_test [] h = absurd h
-starts_test (s ∷ steps) h = (eq-eqb s.time 1 h, omega arith)
-
-rises_test : (time value : ℕ) (steps : List Step) → RiseFrom time value steps → rise_from time value steps ≡ true
-rises_test time value [] h = refl
-rises_test time value (s ∷ steps) h = rw (lt-ltb time s.time h.0, lt-ltb value s.value h.1, rises_test s.time s.value steps h.2) refl
-
-pub curve_passes : (c : Curve) → IsCurve c → curve_check c.horizon c.steps ≡ Ok c
-curve_passes c ok =
-    let first = starts_test c.steps ok.first in
-    let horizon : is_between 1 1000000000 c.horizon ≡ true = positive_from c.horizon ok.horizon_low ok.horizon_high in
-    let few : is_between 1 10000 (length c.steps) ≡ true = and_from _ _ (le-leb 1 (length c.steps) first.1) (le-leb (length c.steps) 10000 ok.few) in
-    rw (horizon, few, ok.fit, first.0, rises_test 0 0 c.steps ok.rising, le-leb (last_time 0 c.steps) c.horizon ok.within) refl
 
 curve_again : (place : Place) (c : Curve) → IsCurve c → curve_rule place (curve_data c) ≡ Ok c
 unfolding curve_rule

@@ -19,7 +19,7 @@ use Rattle.run_text.specs.Text.{segments_of}
 use Rattle.schedule_laws.specs.Compliance.{can_cut}
 use Rattle.simulated_run.specs.declared.mode.Mode.{Mode}
 use Rattle.simulated_run.specs.Jobs.{floating_segments}
-use Rattle.simulated_run.specs.SimulatedRun.{World, Moment, world_of}
+use Rattle.simulated_run.specs.SimulatedRun.{World, Moment, world_of, arrive_below, moment_after}
 use Rattle.windows.specs.Crowds.{AreArrivals}
 use Rattle.windows.specs.Supplied.{AreCounts}
 use Rattle.simulator.specs.declared.simulation.Simulation.{Simulation}
@@ -38,6 +38,10 @@ run_of simulation = record { jobs = simulation.jobs.items; ticks = simulation.ti
 -- with the generator's state
 abbrev pub moment_of : Simulation → Moment
 moment_of simulation = record { run = run_of simulation; state = simulation.words }
+
+-- the moment at tick t once the jobs of the first n tasks have arrived
+abbrev pub moment_with : World → ℕ → ℕ → Moment
+moment_with w t n = arrive_below w t n (moment_after w t)
 
 -- the service that job k still needs
 abbrev pub left_at : List ℕ → ℕ → ℕ

@@ -2,9 +2,9 @@
 ghost use Rattle.std.specs.Prelude.{◌≡◌, ◌≤◌, ◌<◌, ◌+◌, length, OnOk, IfErr};
 ghost use Rattle.task_sheet.specs.Sheets.{task_at};
 ghost use Rattle.preemption.specs.CutLaws.{Serves};
-ghost use Rattle.simulated_run.specs.SimulatedRun.{with_job, add_job as add_job_by, add_jobs as add_jobs_by, arrive_of as arrive_of_by, arrive_below, moment_after};
+ghost use Rattle.simulated_run.specs.SimulatedRun.{with_job, add_job as add_job_by, add_jobs as add_jobs_by, arrive_of as arrive_of_by, moment_after};
 ghost use Rattle.simulator.specs.Simulations.{IsRefusal};
-ghost use Rattle.simulator.specs.SimulationState.{IsKept, IsNew, world_by, run_of, moment_of};
+ghost use Rattle.simulator.specs.SimulationState.{IsKept, IsNew, world_by, run_of, moment_of, moment_with};
 
 use crate::loads::draw_load;
 use crate::refusal::SimRefusal;
@@ -61,9 +61,11 @@ fn add_job<P: Policy, M: Tabled>(
     requires time { t ≤ 100000 }
     requires served { Serves M.cuts sheet.now }
     requires kept { IsKept P.meaning M.cuts sheet.now t simulation.old }
-    ensures moment { OnOk result (moment_of simulation.new ≡ add_job_by (world_by P.meaning M.cuts sheet.now mode) o t (moment_of simulation.old)) }
+    ensures moment { OnOk result (moment_of simulation.new ≡
+        add_job_by (world_by P.meaning M.cuts sheet.now mode) o t (moment_of simulation.old)) }
     ensures kept { OnOk result (IsKept P.meaning M.cuts sheet.now t simulation.new) }
-    ensures refusal { IfErr result (IsRefusal (add_job_by (world_by P.meaning M.cuts sheet.now mode) o t (moment_of simulation.old)).run.jobs) }
+    ensures refusal { IfErr result (IsRefusal
+        (add_job_by (world_by P.meaning M.cuts sheet.now mode) o t (moment_of simulation.old)).run.jobs) }
 {
     if simulation.jobs.len() >= MOST_JOBS {
         return Err(SimRefusal::Jobs);
@@ -103,9 +105,11 @@ fn add_jobs<P: Policy, M: Tabled>(
     requires time { t ≤ 100000 }
     requires served { Serves M.cuts sheet.now }
     requires kept { IsKept P.meaning M.cuts sheet.now t simulation.old }
-    ensures moment { OnOk result (moment_of simulation.new ≡ add_jobs_by (world_by P.meaning M.cuts sheet.now mode) o t n (moment_of simulation.old)) }
+    ensures moment { OnOk result (moment_of simulation.new ≡
+        add_jobs_by (world_by P.meaning M.cuts sheet.now mode) o t n (moment_of simulation.old)) }
     ensures kept { OnOk result (IsKept P.meaning M.cuts sheet.now t simulation.new) }
-    ensures refusal { IfErr result (IsRefusal (add_jobs_by (world_by P.meaning M.cuts sheet.now mode) o t n (moment_of simulation.old)).run.jobs) }
+    ensures refusal { IfErr result (IsRefusal
+        (add_jobs_by (world_by P.meaning M.cuts sheet.now mode) o t n (moment_of simulation.old)).run.jobs) }
 {
     for i in 0..n {
         add_job::<P, M>(alloc, sheet, mode, simulation, o, t)?;
@@ -126,10 +130,12 @@ fn arrive_of<P: Policy, M: Tabled>(
     requires time { t ≤ 100000 }
     requires served { Serves M.cuts sheet.now }
     requires kept { IsKept P.meaning M.cuts sheet.now t simulation.old }
-    requires stage { moment_of simulation.old ≡ arrive_below (world_by P.meaning M.cuts sheet.now mode) t o (moment_after (world_by P.meaning M.cuts sheet.now mode) t) }
-    ensures moment { OnOk result (moment_of simulation.new ≡ arrive_of_by (world_by P.meaning M.cuts sheet.now mode) o t (moment_of simulation.old)) }
+    requires stage { moment_of simulation.old ≡ moment_with (world_by P.meaning M.cuts sheet.now mode) t o }
+    ensures moment { OnOk result (moment_of simulation.new ≡
+        arrive_of_by (world_by P.meaning M.cuts sheet.now mode) o t (moment_of simulation.old)) }
     ensures kept { OnOk result (IsKept P.meaning M.cuts sheet.now t simulation.new) }
-    ensures refusal { IfErr result (IsRefusal (arrive_of_by (world_by P.meaning M.cuts sheet.now mode) o t (moment_of simulation.old)).run.jobs) }
+    ensures refusal { IfErr result (IsRefusal
+        (arrive_of_by (world_by P.meaning M.cuts sheet.now mode) o t (moment_of simulation.old)).run.jobs) }
 {
     let curve = &sheet.task(o).curve;
     let room = allowance(curve, &simulation.arrivals[o as usize], t);
@@ -149,9 +155,11 @@ pub fn arrive<P: Policy, M: Tabled>(
     requires served { Serves M.cuts sheet.now }
     requires kept { IsKept P.meaning M.cuts sheet.now t simulation.old }
     requires stage { moment_of simulation.old ≡ moment_after (world_by P.meaning M.cuts sheet.now mode) t }
-    ensures moment { OnOk result (moment_of simulation.new ≡ arrive_below (world_by P.meaning M.cuts sheet.now mode) t (length sheet.now.tasks) (moment_after (world_by P.meaning M.cuts sheet.now mode) t)) }
+    ensures moment { OnOk result (moment_of simulation.new ≡
+        moment_with (world_by P.meaning M.cuts sheet.now mode) t (length sheet.now.tasks)) }
     ensures kept { OnOk result (IsKept P.meaning M.cuts sheet.now t simulation.new) }
-    ensures refusal { IfErr result (IsRefusal (arrive_below (world_by P.meaning M.cuts sheet.now mode) t (length sheet.now.tasks) (moment_after (world_by P.meaning M.cuts sheet.now mode) t)).run.jobs) }
+    ensures refusal { IfErr result (IsRefusal
+        (moment_with (world_by P.meaning M.cuts sheet.now mode) t (length sheet.now.tasks)).run.jobs) }
 {
     for o in 0..sheet.len() {
         arrive_of::<P, M>(alloc, sheet, mode, simulation, o, t)?;

@@ -59,7 +59,8 @@ fn fixed_load(
     requires high { most ≤ 1000000000 }
     ensures load { IfOk result (IsLoad mode (Fixed segments.now) most words.old spare) }
     ensures state { OnOk result (words.new ≡ after (words_by mode (Fixed segments.now)) words.old) }
-    ensures refusal { IfErr result (IsLoadRefusal spare (segments_by mode (Fixed segments.now) (cost_by mode (Fixed segments.now) most words.old) words.old)) }
+    ensures refusal { IfErr result (IsLoadRefusal spare (segments_by mode (Fixed segments.now)
+        (cost_by mode (Fixed segments.now) most words.old) words.old)) }
 {
     if segments.len() > spare {
         return Err(SimRefusal::Segments);
@@ -117,7 +118,8 @@ fn floating_load(
     requires high { most ≤ 1000000000 }
     ensures load { IfOk result (IsLoad mode (Floating bound) most words.old spare) }
     ensures state { OnOk result (words.new ≡ after (words_by mode (Floating bound)) words.old) }
-    ensures refusal { IfErr result (IsLoadRefusal spare (segments_by mode (Floating bound) (cost_by mode (Floating bound) most words.old) words.old)) }
+    ensures refusal { IfErr result (IsLoadRefusal spare (segments_by mode (Floating bound)
+        (cost_by mode (Floating bound) most words.old) words.old)) }
 {
     let cost = cost_of(mode, most, words);
     if count_split(bound, cost) > spare {
@@ -141,7 +143,8 @@ pub fn draw_load(
     requires high { most ≤ 1000000000 }
     ensures load { IfOk result (IsLoad mode cut.now most words.old spare) }
     ensures state { OnOk result (words.new ≡ after (words_by mode cut.now) words.old) }
-    ensures refusal { IfErr result (IsLoadRefusal spare (segments_by mode cut.now (cost_by mode cut.now most words.old) words.old)) }
+    ensures refusal { IfErr result (IsLoadRefusal spare (segments_by mode cut.now
+        (cost_by mode cut.now most words.old) words.old)) }
 {
     match cut {
         Cut::Full | Cut::Never => Ok(Load {

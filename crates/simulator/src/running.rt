@@ -8,9 +8,9 @@ ghost use Rattle.run_text.specs.Text.{IsWithinLimits};
 ghost use Rattle.schedule_laws.specs.Compliance.{IsCompliant};
 ghost use Rattle.simulated_run.specs.declared.mode.Mode.TheVariants.{Dense};
 ghost use Rattle.simulated_run.specs.Laws.{IsDense, IsPrompt};
-ghost use Rattle.simulated_run.specs.SimulatedRun.{World, world_of, seed_of as seed_by, arrive_below, moment_after};
+ghost use Rattle.simulated_run.specs.SimulatedRun.{World, world_of, seed_of as seed_by, moment_after};
 ghost use Rattle.simulator.specs.Simulations.{IsSimulation, IsRefusal};
-ghost use Rattle.simulator.specs.SimulationState.{IsKept, world_by, moment_of};
+ghost use Rattle.simulator.specs.SimulationState.{IsKept, world_by, moment_of, moment_with};
 
 use crate::arrivals::arrive;
 use crate::refusal::SimRefusal;
@@ -40,7 +40,8 @@ fn seed_of(mode: Mode) -> u64
 /// No arrivals, for so many tasks.
 fn no_arrivals(alloc: Global, n: u32) -> Result<Vec<Vec<u64>>, AllocError>
     ensures len { IfOk result (λ lists. length lists.items ≡ n) }
-    ensures none { IfOk result (λ lists. (o : ℕ) (d : GlobalVec ℕ) → o < n → (slice_index_or lists.items o d).items ≡ []) }
+    ensures none { IfOk result (λ lists. (o : ℕ) (d : GlobalVec ℕ) → o < n →
+        (slice_index_or lists.items o d).items ≡ []) }
 {
     let mut lists = Vec::new(alloc);
     for _o in 0..n {
@@ -55,7 +56,8 @@ fn start<P: Policy, M: Preemption>(
     sheet: &Sheet,
     mode: Mode,
 ) -> Result<Simulation, AllocError>
-    ensures moment { IfOk result (λ simulation. moment_of simulation ≡ moment_after (world_by P.meaning M.cuts sheet.now mode) 0) }
+    ensures moment { IfOk result (λ simulation. moment_of simulation ≡
+        moment_after (world_by P.meaning M.cuts sheet.now mode) 0) }
     ensures kept { IfOk result (IsKept P.meaning M.cuts sheet.now 0) }
     ensures valid { IsValidSheet sheet.now }
 {
@@ -86,9 +88,11 @@ fn run_tick<P: Policy, M: Tabled>(
     requires served { Serves M.cuts sheet.now }
     requires kept { IsKept P.meaning M.cuts sheet.now t simulation.old }
     requires stage { moment_of simulation.old ≡ moment_after (world_by P.meaning M.cuts sheet.now mode) t }
-    ensures moment { OnOk result (moment_of simulation.new ≡ moment_after (world_by P.meaning M.cuts sheet.now mode) (suc t)) }
+    ensures moment { OnOk result (moment_of simulation.new ≡
+        moment_after (world_by P.meaning M.cuts sheet.now mode) (suc t)) }
     ensures kept { OnOk result (IsKept P.meaning M.cuts sheet.now (suc t) simulation.new) }
-    ensures refusal { IfErr result (IsRefusal (arrive_below (world_by P.meaning M.cuts sheet.now mode) t (length sheet.now.tasks) (moment_after (world_by P.meaning M.cuts sheet.now mode) t)).run.jobs) }
+    ensures refusal { IfErr result (IsRefusal
+        (moment_with (world_by P.meaning M.cuts sheet.now mode) t (length sheet.now.tasks)).run.jobs) }
 {
     arrive::<P, M>(alloc, sheet, mode, simulation, t)?;
     add_tick::<P, M>(sheet, mode, simulation, t)?;
@@ -97,10 +101,10 @@ fn run_tick<P: Policy, M: Tabled>(
 
 /// The simulated run of a sheet's first `n` ticks, up to 100,000; `supply` is what the sheet states.
 ///
-/// The run complies with the sheet, and can be written; each job is released at its arrival. In mode dense as many jobs arrive at each
-/// tick as the curves still admit. It is refused by `Jobs` where it has more than
-/// 20,000 jobs, and by `Segments` where their segments are more than 1,000,000, as soon as a job
-/// passes a limit; a job that passes both limits passes `Jobs`.
+/// The run complies with the sheet, and can be written; each job is released at its arrival. In mode
+/// dense as many jobs arrive at each tick as the curves still admit. It is refused by `Jobs` where it
+/// has more than 20,000 jobs, and by `Segments` where their segments are more than 1,000,000, as soon
+/// as a job passes a limit; a job that passes both limits passes `Jobs`.
 pub fn simulate<P: Policy, M: Tabled, S: Supply>(
     alloc: Global,
     sheet: &Sheet,

@@ -5,9 +5,9 @@ ghost use Rattle.task_sheet.specs.Sheets.{IsTask};
 ghost use Rattle.preemption.specs.CutLaws.{Serves};
 ghost use Rattle.run_model.specs.declared.run.Tick.TheVariants.{Off, Runs as RunsJob};
 ghost use Rattle.run_model.specs.Runs.{is_on as is_on_by};
-ghost use Rattle.simulated_run.specs.SimulatedRun.{World, choice, with_tick, arrive_below, moment_after, add_tick as add_tick_by};
+ghost use Rattle.simulated_run.specs.SimulatedRun.{World, choice, with_tick, add_tick as add_tick_by};
 ghost use Rattle.simulator.specs.Ranks.{rank_cmp};
-ghost use Rattle.simulator.specs.SimulationState.{IsKept, IsKeptAt, IsFirstEntry, MayBe, FloatsBy, CanRun, KeepsRest, HasCuts, left_at, world_by, run_of, moment_of};
+ghost use Rattle.simulator.specs.SimulationState.{IsKept, IsKeptAt, IsFirstEntry, MayBe, FloatsBy, CanRun, KeepsRest, HasCuts, left_at, world_by, run_of, moment_of, moment_with};
 
 use crate::simulation::{Rank, Simulation, rank_of};
 use crate::words::draw_off;
@@ -35,7 +35,8 @@ fn first_entry(queue: &BTreeMap<Rank, u32>) -> Option<u32>
 
 /// What the processor does where it is supplied.
 fn choose(simulation: &Simulation) -> Tick
-    ensures { (w : World) (t : ℕ) → IsKept w.policy w.cuts w.sheet t simulation.now → result ≡ choice w (run_of simulation.now) t }
+    ensures { (w : World) (t : ℕ) → IsKept w.policy w.cuts w.sheet t simulation.now → result ≡
+        choice w (run_of simulation.now) t }
 {
     if let Some(k) = simulation.inside {
         return Tick::Runs(k);
@@ -48,8 +49,10 @@ fn choose(simulation: &Simulation) -> Tick
 
 /// What the processor does, and nothing where it is off.
 fn pick(simulation: &Simulation, off: bool) -> Tick
-    ensures tick { (w : World) (t : ℕ) → IsKept w.policy w.cuts w.sheet t simulation.now → result ≡ cond off Off (choice w (run_of simulation.now) t) }
-    ensures may { (w : World) (t : ℕ) → HasCuts w → IsKept w.policy w.cuts w.sheet t simulation.now → MayBe simulation.now result }
+    ensures tick { (w : World) (t : ℕ) → IsKept w.policy w.cuts w.sheet t simulation.now → result ≡
+        cond off Off (choice w (run_of simulation.now) t) }
+    ensures may { (w : World) (t : ℕ) → HasCuts w →
+        IsKept w.policy w.cuts w.sheet t simulation.now → MayBe simulation.now result }
 {
     if off { Tick::Off } else { choose(simulation) }
 }
@@ -95,9 +98,12 @@ fn run_job<P: Policy, M: Tabled>(sheet: &Sheet, simulation: &mut Simulation, k: 
     requires served { Serves M.cuts sheet.now }
     requires kept { IsKept P.meaning M.cuts sheet.now (length simulation.old.ticks.items) simulation.old }
     ensures rest { KeepsRest simulation.old simulation.new }
-    ensures kept { IsKeptAt P.meaning M.cuts sheet.now (suc (length simulation.old.ticks.items)) (with_tick (run_of simulation.old) (RunsJob k)) simulation.new.left.items simulation.new.queue simulation.new.inside }
+    ensures kept { IsKeptAt P.meaning M.cuts sheet.now (suc (length simulation.old.ticks.items))
+        (with_tick (run_of simulation.old)
+        (RunsJob k)) simulation.new.left.items simulation.new.queue simulation.new.inside }
 {
-    let _count = sheet.len();
+    // the sheet is valid, by a clause of this call
+    let _valid = sheet.len();
     let rest = simulation.left[k as usize] - 1;
     simulation.left[k as usize] = rest;
     let job = &simulation.jobs[k as usize];
@@ -114,7 +120,9 @@ fn advance<P: Policy, M: Tabled>(sheet: &Sheet, simulation: &mut Simulation, tic
     requires served { Serves M.cuts sheet.now }
     requires kept { IsKept P.meaning M.cuts sheet.now (length simulation.old.ticks.items) simulation.old }
     ensures rest { KeepsRest simulation.old simulation.new }
-    ensures kept { IsKeptAt P.meaning M.cuts sheet.now (suc (length simulation.old.ticks.items)) (with_tick (run_of simulation.old) tick) simulation.new.left.items simulation.new.queue simulation.new.inside }
+    ensures kept { IsKeptAt P.meaning M.cuts sheet.now (suc (length simulation.old.ticks.items))
+        (with_tick (run_of simulation.old) tick) simulation.new.left.items simulation.new.queue
+        simulation.new.inside }
 {
     if let Tick::Runs(k) = tick {
         run_job::<P, M>(sheet, simulation, k);
@@ -141,11 +149,14 @@ pub fn add_tick<P: Policy, M: Tabled>(
     requires time { t ≤ 100000 }
     requires served { Serves M.cuts sheet.now }
     requires kept { IsKept P.meaning M.cuts sheet.now t simulation.old }
-    requires stage { moment_of simulation.old ≡ arrive_below (world_by P.meaning M.cuts sheet.now mode) t (length sheet.now.tasks) (moment_after (world_by P.meaning M.cuts sheet.now mode) t) }
-    ensures moment { OnOk result (moment_of simulation.new ≡ add_tick_by (world_by P.meaning M.cuts sheet.now mode) t (moment_of simulation.old)) }
+    requires stage { moment_of simulation.old ≡
+        moment_with (world_by P.meaning M.cuts sheet.now mode) t (length sheet.now.tasks) }
+    ensures moment { OnOk result (moment_of simulation.new ≡
+        add_tick_by (world_by P.meaning M.cuts sheet.now mode) t (moment_of simulation.old)) }
     ensures kept { OnOk result (IsKept P.meaning M.cuts sheet.now (suc t) simulation.new) }
 {
-    let _count = sheet.len();
+    // the sheet is valid, by a clause of this call
+    let _valid = sheet.len();
     let may = off_allowed(sheet, &simulation.counts, t);
     let off = draw_off(mode, may, &mut simulation.words);
     let tick = pick(simulation, off);

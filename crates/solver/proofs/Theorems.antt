@@ -42,12 +42,12 @@ module _ (p : PolicyMeaning) (m : CutMeaning) (sbf : ℕ → ℕ) (sheet : Sheet
         bound_least p m sbf sheet laws i l (entry_at cert i) (entry_at other i) false own.best some task,
       )
 
-  no_window_none : (i : ℕ) → HasNoWindow p m sbf sheet horizon i → NoneMeets p m sbf sheet horizon
+  no_window_none : (i : ℕ) → HasNoWindow p m sbf sheet horizon i → NoneMeets p m sbf sheet horizon Window
   no_window_none i has other have up_to none =
       let meets = cert_means p m sbf sheet false other none in
       has.none (entry_at other i).window (entry_up_to_of other i (omega (arith, meets.count, has.before.1.task)) up_to).window (meets.tasks i has.before.1.task).window
 
-  late_none : Laws p m sbf sheet → (i : ℕ) → HasLateBound p m sbf sheet horizon i → NoneMeets p m sbf sheet horizon
+  late_none : Laws p m sbf sheet → (i : ℕ) → HasLateBound p m sbf sheet horizon i → NoneMeets p m sbf sheet horizon Bound
   late_none laws i has other have up_to none =
       let meets = cert_means p m sbf sheet false other none in
       let l : i < length other.entries = omega (arith, meets.count, has.before.task) in

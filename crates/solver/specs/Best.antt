@@ -116,12 +116,17 @@ NoneSmaller p m sbf sheet cert =
     (other : Cert) → HavePoints other → failed_of p m sbf sheet false other ≡ None → (i : ℕ) → i < length sheet.tasks →
     ((entry_at cert i).window ≤ (entry_at other i).window) × ((entry_at cert i).bound ≤ (entry_at other i).bound)
 
--- no certificate with numbers up to the horizon and a point in each entry meets the conditions
-abbrev pub NoneMeets : PolicyMeaning → CutMeaning → (ℕ → ℕ) → SheetParts → ℕ → Type 0
-NoneMeets p m sbf sheet horizon = (other : Cert) → HavePoints other → IsUpTo horizon other → failed_of p m sbf sheet false other ≡ None → ⊥
+-- a window is judged in every entry, a bound at the points alone
+abbrev pub IsJudged : Part → Cert → Type 0
+IsJudged Window cert = Unit {0}
+IsJudged Bound cert = HavePoints cert
+
+-- no certificate with numbers up to the horizon, in which this part is judged, meets the conditions
+abbrev pub NoneMeets : PolicyMeaning → CutMeaning → (ℕ → ℕ) → SheetParts → ℕ → Part → Type 0
+NoneMeets p m sbf sheet horizon part = (other : Cert) → IsJudged part other → IsUpTo horizon other → failed_of p m sbf sheet false other ≡ None → ⊥
 
 -- so it is where there is no bound
 abbrev pub NoneWhereNoBound : PolicyMeaning → CutMeaning → (ℕ → ℕ) → SheetParts → ℕ → AnalyseRefusal → Type 0
-NoneWhereNoBound p m sbf sheet horizon (NoBound i part) = NoneMeets p m sbf sheet horizon
+NoneWhereNoBound p m sbf sheet horizon (NoBound i part) = NoneMeets p m sbf sheet horizon part
 NoneWhereNoBound p m sbf sheet horizon (Points i) = Unit {0}
 NoneWhereNoBound p m sbf sheet horizon Memory = Unit {0}

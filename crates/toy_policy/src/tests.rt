@@ -19,13 +19,7 @@ mod even_cut;
 const CERT: &[u8] = b"poet-cert 1\ntasks 2\ntask 0 1 1 1\np 0 1\ntask 1 3 3 1\np 0 3\nend\n";
 
 /// A task that arrives once in each period, whose deadline is the period.
-fn make_task(
-    alloc: Global,
-    name: &str,
-    cost: u64,
-    period: u64,
-    priority: u64,
-) -> Result<Task, Fail>
+fn make_task(alloc: Global, name: &str, cost: u64, period: u64, priority: u64) -> Result<Task, Fail>
     requires low { 1 ≤ period }
     requires high { period ≤ 1000000000 }
 {

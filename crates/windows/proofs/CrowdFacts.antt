@@ -1,3 +1,4 @@
+-- The first crowded job, from the first crowded tick of each task.
 use Rattle.std.proofs.Common.{◌≡◌, ℕ, suc, ◌+◌, ◌-◌, ◌==◌, ◌<◌, ◌≤◌, ◌⊎◌, ◌&&◌, ◌||◌, Bool, true, false, cond, List, [], ◌∷◌, length, get_or, count_by, map, filter, Option, Some, None, refl, sym, ◌∙◌, ap, subst, inl, inr, arith, leb, ltb}
 use Rattle.std.specs.List.Sorted.{IsPermutation, IsNonDecreasing}
 use Rattle.std.proofs.lemmas.Bool.{cases_lt, cases_Bool}
@@ -20,7 +21,8 @@ use Rattle.windows.specs.Crowds.{IsNoLater, IsFirstJob, IsCrowdedOf, comes_first
 use Rattle.windows.proofs.ArrivalFacts.{arrived_range, arrived_permuted}
 
 -- the same jobs are counted by their arrivals
-count_filtered : (q : Job → Bool) (p : ℕ → Bool) (js : List Job) → count_by p (map (λ j. j.arrival) (filter q js)) ≡ count_by (λ j. q j && p j.arrival) js
+count_filtered : (q : Job → Bool) (p : ℕ → Bool) (js : List Job) →
+    count_by p (map (λ j. j.arrival) (filter q js)) ≡ count_by (λ j. q j && p j.arrival) js
 count_filtered q p [] = refl
 count_filtered q p (j ∷ js) = elim (cases_Bool (q j)) [
   | inl t ↦
@@ -49,7 +51,8 @@ unfolding arrived_in arrivals_of
 arrivals_listed run o s u = count_filtered (λ j. j.task == o) (λ a. leb s a && ltb a u) run.jobs
 
 -- sorted, they are the arrivals of task o
-pub are_arrivals : (run : Run) (o : ℕ) (xs ys : List ℕ) → xs ≡ task_arrivals run o → IsPermutation xs ys → IsNonDecreasing ys → AreArrivals run o ys
+pub are_arrivals : (run : Run) (o : ℕ) (xs ys : List ℕ) → xs ≡ task_arrivals run o → IsPermutation xs ys →
+    IsNonDecreasing ys → AreArrivals run o ys
 are_arrivals run o xs ys is same up = record {
   ascending = up;
   same = λ s u. arrived_permuted xs ys s u same ∙ ap (λ (l : List ℕ). arrived_in l s u) is ∙ arrivals_listed run o s u;
@@ -74,7 +77,8 @@ module _ (run : Run) (o : ℕ) (xs : List ℕ) (are : AreArrivals run o xs) wher
 
   module _ (sheet : SheetParts) where
     -- a crowded job, and the tick of its arrival
-    tick_of_job : (n : ℕ) → (job_at run n).task ≡ o → is_crowded sheet run n ≡ true → IsCrowdedTick (task_at sheet o).curve xs (job_at run n).arrival
+    tick_of_job : (n : ℕ) → (job_at run n).task ≡ o → is_crowded sheet run n ≡ true →
+        IsCrowdedTick (task_at sheet o).curve xs (job_at run n).arrival
     tick_of_job n e h =
         let crowd = crowded_from sheet run n h in
         record {
@@ -83,17 +87,20 @@ module _ (run : Run) (o : ℕ) (xs : List ℕ) (are : AreArrivals run o xs) wher
           many = omega (arith, are.same crowd.start ((job_at run n).arrival + 1), subst (λ w. alpha_of (task_at sheet w).curve ((job_at run n).arrival + 1 - crowd.start) < arrivals_of run w crowd.start ((job_at run n).arrival + 1)) e crowd.many);
         }
 
-    job_of_tick : (n : ℕ) → (job_at run n).task ≡ o → IsCrowdedTick (task_at sheet o).curve xs (job_at run n).arrival → is_crowded sheet run n ≡ true
+    job_of_tick : (n : ℕ) → (job_at run n).task ≡ o →
+        IsCrowdedTick (task_at sheet o).curve xs (job_at run n).arrival → is_crowded sheet run n ≡ true
     job_of_tick n e crowd = crowded_to sheet run n (record {
       start = crowd.start;
       within = crowd.within;
       many = subst (λ w. alpha_of (task_at sheet w).curve ((job_at run n).arrival + 1 - crowd.start) < arrivals_of run w crowd.start ((job_at run n).arrival + 1)) (sym e) (omega (arith, are.same crowd.start ((job_at run n).arrival + 1), crowd.many));
     })
 
-    pub none_of_task : IsFirstCrowdedTick (task_at sheet o).curve xs None → IsFirstJob (IsCrowdedOf sheet run o) run None
+    pub none_of_task : IsFirstCrowdedTick (task_at sheet o).curve xs None →
+        IsFirstJob (IsCrowdedOf sheet run o) run None
     none_of_task free n b crowd = free (job_at run n).arrival (tick_of_job n crowd.task crowd.crowded)
 
-    pub first_of_task : (t : ℕ) (r : Option ℕ) → IsFirstCrowdedTick (task_at sheet o).curve xs (Some t) → IsFirstBelow (ArrivesAt run o t) (length run.jobs) r → IsFirstJob (IsCrowdedOf sheet run o) run r
+    pub first_of_task : (t : ℕ) (r : Option ℕ) → IsFirstCrowdedTick (task_at sheet o).curve xs (Some t) →
+        IsFirstBelow (ArrivesAt run o t) (length run.jobs) r → IsFirstJob (IsCrowdedOf sheet run o) run r
     first_of_task t None first none =
         let i = first.1 in
         let k = arrival_job i.0 i.1 in
@@ -135,7 +142,8 @@ second_tells : (run : Run) (k n : ℕ) → comes_first run k n ≡ false → IsN
 second_tells run k n h = second_of_numbers (job_at run k).arrival (job_at run n).arrival k n h
 
 module _ (run : Run) (P Q R : ℕ → Type 0) (left : (n : ℕ) → P n → R n) (right : (n : ℕ) → Q n → R n) (either : (n : ℕ) → R n → P n ⊎ Q n) where
-  first_two : (k n : ℕ) → (b : Bool) → comes_first run k n ≡ b → IsFirstJob P run (Some k) → IsFirstJob Q run (Some n) → IsFirstJob R run (cond b (Some k) (Some n))
+  first_two : (k n : ℕ) → (b : Bool) → comes_first run k n ≡ b → IsFirstJob P run (Some k) →
+      IsFirstJob Q run (Some n) → IsFirstJob R run (cond b (Some k) (Some n))
   first_two k n true e p q = (
     p.0,
     left k p.1,
@@ -148,7 +156,8 @@ module _ (run : Run) (P Q R : ℕ → Type 0) (left : (n : ℕ) → P n → R n)
   )
 
   -- the first job with one of two properties
-  pub first_of_either : (a b : Option ℕ) → IsFirstJob P run a → IsFirstJob Q run b → IsFirstJob R run (earlier_of run a b)
+  pub first_of_either : (a b : Option ℕ) → IsFirstJob P run a → IsFirstJob Q run b →
+      IsFirstJob R run (earlier_of run a b)
   first_of_either None None p q = λ n b r. elim (either n r) [ inl h ↦ p n b h | inr h ↦ q n b h ]
   first_of_either None (Some n) p q = (q.0, right n q.1, (λ m b r. elim (either m r) [ inl h ↦ absurd (p m b h) | inr h ↦ q.2 m b h ]))
   first_of_either (Some k) None p q = (p.0, left k p.1, (λ m b r. elim (either m r) [ inl h ↦ p.2 m b h | inr h ↦ absurd (q m b h) ]))
@@ -162,7 +171,9 @@ pub record IsCrowdedBelow (sheet : SheetParts) (run : Run) (n k : ℕ) : Type 0 
 pub below_none : (sheet : SheetParts) (run : Run) → IsFirstJob (IsCrowdedBelow sheet run 0) run None
 below_none sheet run n b crowd = absurd (omega (arith, crowd.task))
 
-pub below_more : (sheet : SheetParts) (run : Run) (o : ℕ) (a b : Option ℕ) → IsFirstJob (IsCrowdedBelow sheet run o) run a → IsFirstJob (IsCrowdedOf sheet run o) run b → IsFirstJob (IsCrowdedBelow sheet run (o + 1)) run (earlier_of run a b)
+pub below_more : (sheet : SheetParts) (run : Run) (o : ℕ) (a b : Option ℕ) →
+    IsFirstJob (IsCrowdedBelow sheet run o) run a → IsFirstJob (IsCrowdedOf sheet run o) run b →
+    IsFirstJob (IsCrowdedBelow sheet run (o + 1)) run (earlier_of run a b)
 below_more sheet run o a b p q =
     first_of_either run (IsCrowdedBelow sheet run o) (IsCrowdedOf sheet run o) (IsCrowdedBelow sheet run (o + 1))
     (λ n h. record { task = omega (arith, h.task); crowded = h.crowded })
@@ -173,11 +184,13 @@ below_more sheet run o a b p q =
     ])
     a b p q
 
-pub below_all : (sheet : SheetParts) (run : Run) (r : Option ℕ) → AreOf sheet run → IsFirstJob (IsCrowdedBelow sheet run (length sheet.tasks)) run r → IsFirstCrowded sheet run r
+pub below_all : (sheet : SheetParts) (run : Run) (r : Option ℕ) → AreOf sheet run →
+    IsFirstJob (IsCrowdedBelow sheet run (length sheet.tasks)) run r → IsFirstCrowded sheet run r
 below_all sheet run None of free = λ n b crowd. free n b (record { task = of n b; crowded = crowd })
 below_all sheet run (Some k) of first = (first.0, first.1.crowded, (λ n b crowd. first.2 n b (record { task = of n b; crowded = crowd })))
 
 -- the same first tick in other words
-pub same_first_tick : (t u : Task) (xs ys : List ℕ) (r s : Option ℕ) → t ≡ u → xs ≡ ys → r ≡ s → IsFirstCrowdedTick t.curve xs r → IsFirstCrowdedTick u.curve ys s
+pub same_first_tick : (t u : Task) (xs ys : List ℕ) (r s : Option ℕ) → t ≡ u → xs ≡ ys → r ≡ s →
+    IsFirstCrowdedTick t.curve xs r → IsFirstCrowdedTick u.curve ys s
 same_first_tick t u xs ys r s a b c first =
     subst (λ (w : Option ℕ). IsFirstCrowdedTick u.curve ys w) c (subst (λ (l : List ℕ). IsFirstCrowdedTick u.curve l r) b (subst (λ (w : Task). IsFirstCrowdedTick w.curve xs r) a first))

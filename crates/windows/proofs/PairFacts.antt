@@ -1,3 +1,4 @@
+-- Windows from one arrival to another decide which tick is crowded.
 use Rattle.std.proofs.Common.{◌≡◌, ℕ, zero, suc, ◌+◌, ◌-◌, ◌<◌, ◌≤◌, List, length, get_or, Some, None, refl, subst, inl, inr, arith}
 use Rattle.std.specs.List.Sorted.{IsNonDecreasing}
 use Rattle.std.proofs.lemmas.Bool.{cases_lt}
@@ -43,7 +44,8 @@ module _ (c : Curve) (ok : IsCurve c) (xs : List ℕ) (up : IsNonDecreasing xs) 
   }
 
   -- where no pair up to number m is crowded, no tick before the arrival m is
-  pub no_tick : (m : ℕ) → m ≤ length xs → ((j i : ℕ) → j < m → IsCrowdedPair c xs j i → ⊥) → (b : ℕ) → ((k : ℕ) → m ≤ k → k < length xs → b < get_or xs k 0) → IsCrowdedTick c xs b → ⊥
+  pub no_tick : (m : ℕ) → m ≤ length xs → ((j i : ℕ) → j < m → IsCrowdedPair c xs j i → ⊥) → (b : ℕ) →
+      ((k : ℕ) → m ≤ k → k < length xs → b < get_or xs k 0) → IsCrowdedTick c xs b → ⊥
   no_tick m h free b after crowd =
       let s = crowd.start in
       let first = reached xs s (length xs) in
@@ -71,7 +73,8 @@ module _ (c : Curve) (ok : IsCurve c) (xs : List ℕ) (up : IsNonDecreasing xs) 
   pub tick_none : ((j i : ℕ) → j < length xs → IsCrowdedPair c xs j i → ⊥) → IsFirstCrowdedTick c xs None
   tick_none free b = no_tick (length xs) (omega arith) free b (λ k l m. absurd (omega arith))
 
-  pub tick_some : (j i : ℕ) → j < length xs → ((k i : ℕ) → k < j → IsCrowdedPair c xs k i → ⊥) → IsCrowdedPair c xs j i → IsFirstCrowdedTick c xs (Some (get_or xs j 0))
+  pub tick_some : (j i : ℕ) → j < length xs → ((k i : ℕ) → k < j → IsCrowdedPair c xs k i → ⊥) →
+      IsCrowdedPair c xs j i → IsFirstCrowdedTick c xs (Some (get_or xs j 0))
   tick_some j i b free pair = (
     record {
       holds = pair_crowds j i b pair;

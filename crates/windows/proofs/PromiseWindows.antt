@@ -1,3 +1,4 @@
+-- Windows whose length is a promised time decide whether a tick may be off.
 use Rattle.std.proofs.Common.{◌≡◌, ℕ, zero, suc, ◌+◌, ◌-◌, ◌*◌, ◌/◌, ◌%◌, ◌<◌, ◌≤◌, true, List, [], ◌∷◌, length, get_or, refl, sym, ap, subst, inl, inr, arith}
 use Rattle.std.proofs.lemmas.Bool.{cases_lt}
 use Rattle.std.proofs.lemmas.Nat.{div-mul-add, mod-mul-add}
@@ -12,7 +13,8 @@ use Rattle.supply.proofs.PromiseFacts.{count_there, later_time, times_rise, time
 use Rattle.windows.specs.Supplied.{ArePromised, MayBeOff}
 
 -- the last of the times that are counted
-last_counted : (times : List ℕ) (low d k : ℕ) → rise_above low times ≡ true → count_of times d ≡ suc k → (k < length times) × (get_or times k 0 ≤ d)
+last_counted : (times : List ℕ) (low d k : ℕ) → rise_above low times ≡ true → count_of times d ≡ suc k →
+    (k < length times) × (get_or times k 0 ≤ d)
 last_counted [] low d k rise e = absurd (omega arith)
 last_counted (t ∷ times) low d zero rise e = elim (cases_lt d t) [
   | inr c ↦ (omega arith, c)
@@ -27,7 +29,8 @@ last_counted (t ∷ times) low d (suc k) rise e = elim (cases_lt d t) [
 
 module _ (horizon : ℕ) (times : List ℕ) (f : Facts horizon times) where
   -- one more horizon
-  pub promised_more : (d : ℕ) → promised horizon times (d + horizon) ≡ promised horizon times d + promised horizon times horizon
+  pub promised_more : (d : ℕ) →
+      promised horizon times (d + horizon) ≡ promised horizon times d + promised horizon times horizon
   unfolding promised
   promised_more d =
       let p : 0 < horizon = f.positive in
@@ -80,13 +83,15 @@ module _ (horizon : ℕ) (times : List ℕ) (f : Facts horizon times) (counts : 
   grown s u h l = omega (arith, past.kept s u h l)
 
   -- a time that is too long for the run, and so are those after it
-  pub have_rest : (i : ℕ) → HaveTimes times counts t i → t + 1 < get_or times i 0 → HaveTimes times counts t (length times)
+  pub have_rest : (i : ℕ) → HaveTimes times counts t i → t + 1 < get_or times i 0 →
+      HaveTimes times counts t (length times)
   have_rest i have long k b c near = elim (cases_lt k i) [
     | inl l ↦ have k l c near
     | inr l ↦ absurd (omega (arith, times_rise times 0 i k f.rise l c))
   ]
 
-  short_window : HaveTimes times counts t (length times) → (s d : ℕ) → s ≤ t → s + d ≡ t + 1 → d ≤ horizon → (k : ℕ) → count_of times d ≡ k → k + get_or counts s 0 ≤ get_or counts t 0
+  short_window : HaveTimes times counts t (length times) → (s d : ℕ) → s ≤ t → s + d ≡ t + 1 → d ≤ horizon →
+      (k : ℕ) → count_of times d ≡ k → k + get_or counts s 0 ≤ get_or counts t 0
   short_window have s d h e l zero c = omega (arith, grown s t h (omega arith))
   short_window have s d h e l (suc k) c =
       let last = last_counted times 0 d k f.rise c in
@@ -94,7 +99,8 @@ module _ (horizon : ℕ) (times : List ℕ) (f : Facts horizon times) (counts : 
       let begin : s ≤ t + 1 - get_or times k 0 = omega (arith, last.1) in
       omega (arith, have k last.0 last.0 (omega (arith, last.1)), grown s (t + 1 - get_or times k 0) begin (omega (arith, first)))
 
-  long_window : HaveTimes times counts t (length times) → (n s : ℕ) → s ≤ t → t - s ≤ n → promised horizon times (t + 1 - s) + get_or counts s 0 ≤ get_or counts t 0
+  long_window : HaveTimes times counts t (length times) → (n s : ℕ) → s ≤ t → t - s ≤ n →
+      promised horizon times (t + 1 - s) + get_or counts s 0 ≤ get_or counts t 0
   long_window have zero s h b =
       let p = f.positive in
       omega (arith, promised_inside horizon times f (t + 1 - s) (omega arith), short_window have s (t + 1 - s) h (omega arith) (omega arith) (count_of times (t + 1 - s)) refl)
@@ -113,7 +119,9 @@ module _ (horizon : ℕ) (times : List ℕ) (f : Facts horizon times) (counts : 
   times_suffice have s h = long_window have t s h (omega arith)
 
   -- a window of a promised time that has fewer ticks
-  pub time_fails : (k : ℕ) → k < length times → get_or times k 0 ≤ t + 1 → get_or counts t 0 < suc k + get_or counts (t + 1 - get_or times k 0) 0 → MayBeOff (promised horizon times) counts t → ⊥
+  pub time_fails : (k : ℕ) → k < length times → get_or times k 0 ≤ t + 1 →
+      get_or counts t 0 < suc k + get_or counts (t + 1 - get_or times k 0) 0 →
+      MayBeOff (promised horizon times) counts t → ⊥
   time_fails k b near few may =
       let first = later_time times 0 k f.rise b in
       let e : t + 1 - (t + 1 - get_or times k 0) ≡ get_or times k 0 = omega arith in
@@ -132,5 +140,6 @@ module _ (spec : SupplySpec) (horizon : ℕ) (times counts : List ℕ) (t : ℕ)
   pub far_allows : (i : ℕ) → HaveTimes times counts t i → t + 1 < get_or times i 0 → MayBeOff (sbf_of spec) counts t
   far_allows i have far = times_allow (have_rest horizon times facts counts t past_of i have far)
 
-  pub time_refutes : (k : ℕ) → k < length times → get_or times k 0 ≤ t + 1 → get_or counts t 0 < suc k + get_or counts (t + 1 - get_or times k 0) 0 → MayBeOff (sbf_of spec) counts t → ⊥
+  pub time_refutes : (k : ℕ) → k < length times → get_or times k 0 ≤ t + 1 →
+      get_or counts t 0 < suc k + get_or counts (t + 1 - get_or times k 0) 0 → MayBeOff (sbf_of spec) counts t → ⊥
   time_refutes k b near few may = time_fails horizon times facts counts t past_of k b near few (subst (λ (s : SupplySpec). MayBeOff (sbf_of s) counts t) (sym is) may)

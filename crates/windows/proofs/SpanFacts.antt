@@ -1,3 +1,4 @@
+-- The shortest windows in which a curve admits so many jobs.
 use Rattle.std.proofs.Common.{◌≡◌, ℕ, ◌+◌, ◌<◌, ◌≤◌, Option, Some, None, sym, subst, inl, inr, arith}
 use Rattle.std.specs.Prelude.{unwrap_or}
 use Rattle.std.proofs.lemmas.Bool.{cases_lt}
@@ -20,7 +21,8 @@ module _ (c : Curve) (ok : IsCurve c) (n d : ℕ) (span : IsSpan c n d) where
   }
 
   -- it does not, and the curve rises next at e
-  span_rises : (r : Option ℕ) → alpha_of c d ≤ n → IsLeastTo (IsRise c d) 4000000000 r → IsSpan c (n + 1) (unwrap_or r 18446744073709551615)
+  span_rises : (r : Option ℕ) → alpha_of c d ≤ n → IsLeastTo (IsRise c d) 4000000000 r →
+      IsSpan c (n + 1) (unwrap_or r 18446744073709551615)
   span_rises None few none = record {
     admits = λ e h l. absurd (omega arith);
     least = λ e h l. (let begun = span.least e h (omega (arith, l)) in elim (cases_lt d e) [
@@ -36,5 +38,6 @@ module _ (c : Curve) (ok : IsCurve c) (n d : ℕ) (span : IsSpan c n d) where
     ];
   }
 
-  pub span_next : (r : Option ℕ) (e : ℕ) → e ≡ unwrap_or r 18446744073709551615 → alpha_of c d ≤ n → IsLeastTo (IsRise c d) 4000000000 r → IsSpan c (n + 1) e
+  pub span_next : (r : Option ℕ) (e : ℕ) → e ≡ unwrap_or r 18446744073709551615 → alpha_of c d ≤ n →
+      IsLeastTo (IsRise c d) 4000000000 r → IsSpan c (n + 1) e
   span_next r e is few rises = subst (IsSpan c (n + 1)) (sym is) (span_rises r few rises)

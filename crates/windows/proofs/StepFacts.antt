@@ -1,3 +1,4 @@
+-- The value of a curve, from its last step up to a length.
 use Rattle.std.proofs.Common.{◌≡◌, ℕ, zero, suc, ◌+◌, ◌-◌, ◌*◌, ◌/◌, ◌%◌, ◌<◌, ◌≤◌, Bool, cond, List, [], ◌∷◌, length, ◌∙◌, ap, arith, leb, add-one}
 use Rattle.std.proofs.lemmas.Bool.{le-leb}
 use Rattle.std.proofs.Math.Nat.{add-mod_right, add-div_right, div_self, mod_self}
@@ -9,7 +10,8 @@ use Rattle.curve.proofs.CurveFacts.{last_value_early}
 use Rattle.curve.proofs.RiseFacts.{alpha_at}
 use Rattle.windows.specs.Steps.{step_at, IsLastStep}
 
-last_here : (s : Step) (steps : List Step) (before d : ℕ) → RiseFrom s.time s.value steps → (0 < length steps → d < (step_at steps 0).time) → s.time ≤ d → last_value before (s ∷ steps) d ≡ s.value
+last_here : (s : Step) (steps : List Step) (before d : ℕ) → RiseFrom s.time s.value steps →
+    (0 < length steps → d < (step_at steps 0).time) → s.time ≤ d → last_value before (s ∷ steps) d ≡ s.value
 last_here s [] before d rise after begun = ap (λ (b : Bool). cond {A = ℕ} b s.value before) (le-leb s.time d begun)
 last_here s (n ∷ steps) before d rise after begun =
     let far : d < n.time = after (omega arith) in
@@ -17,14 +19,17 @@ last_here s (n ∷ steps) before d rise after begun =
     ∙ last_value_early (n ∷ steps) (n.time - 1) s.value s.value d (omega (arith, rise.0), rise.1, rise.2) (omega arith)
 
 -- the last step that has begun gives the value
-last_value_at : (steps : List Step) (time top before d i : ℕ) → RiseFrom time top steps → i < length steps → (step_at steps i).time ≤ d → (suc i < length steps → d < (step_at steps (suc i)).time) → last_value before steps d ≡ (step_at steps i).value
+last_value_at : (steps : List Step) (time top before d i : ℕ) → RiseFrom time top steps → i < length steps →
+    (step_at steps i).time ≤ d → (suc i < length steps → d < (step_at steps (suc i)).time) →
+    last_value before steps d ≡ (step_at steps i).value
 last_value_at [] time top before d i rise listed begun after = absurd (omega arith)
 last_value_at (s ∷ steps) time top before d zero rise listed begun after = last_here s steps before d rise.2 (λ l. after (omega arith)) begun
 last_value_at (s ∷ steps) time top before d (suc i) rise listed begun after =
     last_value_at steps s.time s.value (cond (leb s.time d) s.value before) d i rise.2 (omega arith) begun (λ l. after (omega arith))
 
 -- up to the horizon
-pub alpha_is : (c : Curve) → IsCurve c → (d i : ℕ) → d ≤ c.horizon → IsLastStep c.steps d i → alpha_of c d ≡ (step_at c.steps i).value
+pub alpha_is : (c : Curve) → IsCurve c → (d i : ℕ) → d ≤ c.horizon → IsLastStep c.steps d i →
+    alpha_of c d ≡ (step_at c.steps i).value
 unfolding value_of
 alpha_is c ok d i h at =
     let zero_horizons : 0 * c.horizon + d ≡ d = omega arith in

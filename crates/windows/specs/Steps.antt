@@ -1,3 +1,4 @@
+-- The steps of a curve, and the last one up to a length.
 use Rattle.std.specs.Prelude.{ℕ, ◌+◌, ◌<◌, ◌≤◌, List, length, slice_index_or}
 use Rattle.curve.specs.declared.prefix.Step.{Step}
 

@@ -122,7 +122,8 @@ fn first_crowded_tick(
 ) -> Result<Option<u64>, AllocError>
     requires curve { IsCurve curve.now }
     requires ascending { IsNonDecreasing arrivals.now }
-    requires early { (i : ℕ) → i < length arrivals.now → slice_index arrivals.now i ≤ 1000000000 }
+    requires early { (i : ℕ) → i < length arrivals.now →
+        slice_index arrivals.now i ≤ 1000000000 }
     ensures { IfOk result (IsFirstCrowdedTick curve.now arrivals.now) }
 {
     let spans = spans(alloc, curve, arrivals.len())?;
@@ -138,7 +139,8 @@ fn first_crowded_tick(
 /// more than the curve says.
 fn has_crowded_pair(curve: &Prefix, spans: &[u64], arrivals: &[u64], j: usize) -> bool
     requires ascending { IsNonDecreasing arrivals.now }
-    requires early { (i : ℕ) → i < length arrivals.now → slice_index arrivals.now i ≤ 1000000000 }
+    requires early { (i : ℕ) → i < length arrivals.now →
+        slice_index arrivals.now i ≤ 1000000000 }
     requires spans { AreSpans curve.now spans.now }
     requires lengths { length spans.now ≡ length arrivals.now }
     requires listed { j < length arrivals.now }

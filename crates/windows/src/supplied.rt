@@ -40,7 +40,8 @@ pub fn off_allowed(sheet: &Sheet, counts: &[u64], t: u64) -> bool
 fn is_short(sheet: &Sheet, run: &Run, counts: &[u64], t: u64) -> bool
     requires tick { t < length run.now.ticks }
     requires counts { AreCounts run.now counts.now t }
-    requires free { (u : ℕ) → u < t → is_short_by (sbf_of sheet.now.supply) run.now (u + 1) ≡ false }
+    requires free { (u : ℕ) → u < t →
+        is_short_by (sbf_of sheet.now.supply) run.now (u + 1) ≡ false }
     ensures { result ≡ is_short_by (sbf_of sheet.now.supply) run.now (t + 1) }
 {
     let _tasks = sheet.len();
@@ -50,7 +51,8 @@ fn is_short(sheet: &Sheet, run: &Run, counts: &[u64], t: u64) -> bool
 /// The first tick with which some window ends that has fewer supplied ticks than promised.
 pub fn first_short(alloc: Global, sheet: &Sheet, run: &Run) -> Result<Option<u64>, AllocError>
     requires { length run.now.ticks ≤ 100000 }
-    ensures { IfOk result (λ r. IsFirstBelow (λ t. is_short_by (sbf_of sheet.now.supply) run.now (t + 1) ≡ true) (length run.now.ticks) r) }
+    ensures { IfOk result (IsFirstBelow
+        (λ t. is_short_by (sbf_of sheet.now.supply) run.now (t + 1) ≡ true) (length run.now.ticks)) }
 {
     let mut supplied = 0;
     let mut counts = vec![in alloc; supplied]?;

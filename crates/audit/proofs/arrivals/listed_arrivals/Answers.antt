@@ -1,7 +1,7 @@
 use Rattle.std.proofs.Common.{◌≡◌, ◌+◌, ℕ, sym, subst, arith, length, get_or}
 use Rattle.run_model.specs.Runs.{job_at}
 use Rattle.audit.specs.declared.arrivals.Arrival.{Arrival}
-use Rattle.audit.specs.Fronts.{AreArrivals, arrival_of}
+use Rattle.audit.specs.ArrivalOrder.{AreFirstArrivals, arrival_of}
 use Rattle.audit.proofs.ReadFacts.{job_read}
 use Rattle.audit.proofs.OrderFacts.{arrivals_none, arrivals_more}
 use Rattle.audit.proofs.arrivals.listed_arrivals.Goals as goal
@@ -19,9 +19,9 @@ loop-k-preserved c =
     let job : c.index-as_slice-k.result ≡ job_at run k = job_read run c.as_slice.result.now k c.index-as_slice-k.result (omega arith) c.as_slice.ensures c.index-as_slice-k.is in
     let read = c.index-as_slice-k.is in
     let arrival : arrival_by (get_or c.as_slice.result.now k c.index-as_slice-k.result).arrival k ≡ arrival_of run k = cc in
-    subst (AreArrivals run (k + 1)) (sym c.in_ok-push.ensures.items) (arrivals_more run k c.loop-k.arrivals.items _ arrival c.loop-k.invariant)
+    subst (AreFirstArrivals run (k + 1)) (sym c.in_ok-push.ensures.items) (arrivals_more run k c.loop-k.arrivals.items _ arrival c.loop-k.invariant)
 
 pub returns : goal.returns
 returns c =
     let e : c.loop-k.k ≡ length c.args.run.now.jobs = omega (arith, c.loop-k.auto.k-end) in
-    subst (λ n. AreArrivals c.args.run.now n c.loop-k.arrivals.items) e c.loop-k.invariant
+    subst (λ n. AreFirstArrivals c.args.run.now n c.loop-k.arrivals.items) e c.loop-k.invariant

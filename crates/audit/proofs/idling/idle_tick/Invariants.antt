@@ -1,10 +1,11 @@
 use Rattle.std.proofs.Common.{ℕ, ◌<◌}
-use Rattle.audit.specs.Relations.{IsIdleTick}
-use Rattle.audit.specs.Fronts.{IsProgress}
+use Rattle.schedule_laws.specs.Tests.{is_idle_broken}
+use Rattle.audit.specs.TickRules.{IsTick}
+use Rattle.audit.specs.UndoneJobs.{AreUndone}
 use Rattle.audit.proofs.idling.idle_tick.Given as goal
 
 abbrev pub invariant-loop-t : goal.invariant-loop-t
 invariant-loop-t l = record {
-  progress : IsProgress l.run l.t l.progress;
-  before : (s : ℕ) → s < l.t → IsIdleTick l.run s → ⊥;
+  undone : AreUndone l.run l.t l.undone;
+  before : (s : ℕ) → s < l.t → IsTick (is_idle_broken l.run) l.run s → ⊥;
 }

@@ -1,11 +1,18 @@
-use Rattle.std.proofs.Common.{sym, arith}
-use Rattle.std.proofs.lemmas.Bool.{both_ways}
-use Rattle.audit.proofs.FaultFacts.{unfit_some, unfit_none}
+use Rattle.std.proofs.Common.{sym, ◌∙◌, length, arith}
+use Rattle.schedule_laws.specs.Tests.{does_fit}
+use Rattle.schedule_laws.proofs.TestFacts.{fit_from}
+use Rattle.audit.specs.Faults.{unfit, unfit_in}
+use Rattle.audit.proofs.SearchFacts.{all_hold, first_fails}
 use Rattle.audit.proofs.jobs.first_unfit.Goals as goal
 
 pub returns-then-not-fits-clause-fault : goal.returns-then-not-fits-clause-fault
+unfolding unfit_in
 returns-then-not-fits-clause-fault g c =
-    sym (unfit_some g.M.Preemption.cuts c.args.sheet.now c.args.run.now c.loop-k.k (omega arith) (λ f. both_ways c.fits.result c.if-not-fits.true (c.fits.ensures.1 f)) c.loop-k.invariant)
+    sym (first_fails (does_fit g.M.Preemption.cuts c.args.sheet.now c.args.run.now) unfit (length c.args.run.now.jobs) c.loop-k.k (omega arith) (sym c.fits.ensures ∙ c.if-not-fits.true) c.loop-k.invariant)
 
 pub returns-clause-fault : goal.returns-clause-fault
-returns-clause-fault g c = sym (unfit_none g.M.Preemption.cuts c.args.sheet.now c.args.run.now (λ k b. c.loop-k.invariant k (omega arith)))
+unfolding unfit_in
+returns-clause-fault g c = sym (all_hold (does_fit g.M.Preemption.cuts c.args.sheet.now c.args.run.now) unfit (length c.args.run.now.jobs) (λ k b. c.loop-k.invariant k (omega arith)))
+
+pub returns-clause-fit : goal.returns-clause-fit
+returns-clause-fit g c = λ _ k b. fit_from g.M.Preemption.cuts c.args.sheet.now c.args.run.now k (c.loop-k.invariant k (omega arith))

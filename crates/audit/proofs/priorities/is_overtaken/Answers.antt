@@ -11,10 +11,10 @@ loop-o-preserved g c =
     let sheet = c.args.sheet.now in
     let run = c.args.run.now in
     record {
-      progress = c.front-front.ensures.progress c.args.t c.loop-o.invariant.progress;
+      undone = c.front-front.ensures.undone c.args.t c.loop-o.invariant.undone;
       tasks = c.front-front.ensures.tasks ∙ c.loop-o.invariant.tasks;
       quiet = none_of_more (λ k. IsPending run k c.args.t × (key_le c.args.key (p.key sheet (job_at run k)) ≡ false)) run c.loop-o.o c.loop-o.invariant.quiet
-          (λ k task w. none_urgent p sheet run c.args.key c.args.t c.loop-o.progress.served.items c.loop-o.o c.front-front.result (g.met.P.Policy.lawful sheet c.len-valid.ensures.valid) c.requires.tasks c.loop-o.invariant.progress.counted c.front-front.ensures.front
+          (λ k task w. none_urgent p sheet run c.requires.small c.args.key c.args.t c.loop-o.undone.served.items c.loop-o.o c.front-front.result (g.met.P.Policy.lawful sheet c.len-valid.ensures.valid) c.requires.tasks c.loop-o.invariant.undone.counted c.front-front.ensures.front
           (λ late. both_ways c.is_more_urgent.result c.if-is_more_urgent.false (c.is_more_urgent.ensures.1 late)) k task w.0 w.1);
     }
 
@@ -22,10 +22,10 @@ pub returns : goal.returns
 returns g c = record {
   overtaken = (
     (λ t. absurd (cc)),
-    (λ w. absurd (c.loop-o.invariant.quiet _ (omega (arith, c.loop-o.invariant.progress.ready.tasks w.job w.waits.listed)) w.job refl (w.waits, w.urgent))),
+    (λ w. absurd (c.loop-o.invariant.quiet _ (omega (arith, c.loop-o.invariant.undone.ready.tasks w.job w.waits.listed)) w.job refl (w.waits, w.urgent))),
   );
-  progress = c.loop-o.invariant.progress;
+  undone = c.loop-o.invariant.undone;
 }
 
-pub returns-then-is_more_urgent-clause-progress : goal.returns-then-is_more_urgent-clause-progress
-returns-then-is_more_urgent-clause-progress g c = c.front-front.ensures.progress c.args.t c.loop-o.invariant.progress
+pub returns-then-is_more_urgent-clause-undone : goal.returns-then-is_more_urgent-clause-undone
+returns-then-is_more_urgent-clause-undone g c = c.front-front.ensures.undone c.args.t c.loop-o.invariant.undone

@@ -1,12 +1,12 @@
 use Rattle.std.proofs.Common.{◌≡◌, ℕ, ◌<◌, false, length}
 use Rattle.policy.specs.Keys.{key_le}
 use Rattle.run_model.specs.Runs.{job_at, IsPending}
-use Rattle.audit.specs.Fronts.{IsProgress}
+use Rattle.audit.specs.UndoneJobs.{AreUndone}
 use Rattle.audit.proofs.priorities.is_overtaken.Given as goal
 
 abbrev pub invariant-loop-o : goal.invariant-loop-o
 invariant-loop-o g l = record {
-  progress : IsProgress l.run l.t l.progress;
-  tasks : length l.progress.places.items ≡ l.o-end;
+  undone : AreUndone l.run l.t l.undone;
+  tasks : length l.undone.places.items ≡ l.o-end;
   quiet : (n : ℕ) → n < l.o → (k : ℕ) → (job_at l.run k).task ≡ n → IsPending l.run k l.t × (key_le l.key (g.P.Policy.meaning.key l.sheet (job_at l.run k)) ≡ false) → ⊥;
 }

@@ -2,9 +2,9 @@ use Rattle.std.proofs.Common.{List, get_or, sym, subst, arith, below_more}
 use Rattle.std.proofs.lemmas.Bool.{both_ways}
 use Rattle.run_model.specs.declared.run.Tick.{Tick}
 use Rattle.run_model.specs.declared.run.Tick.TheVariants.{Off}
-use Rattle.audit.specs.Fronts.{Leaves}
+use Rattle.audit.specs.TickRules.{Leaves}
 use Rattle.audit.proofs.ServedFacts.{served_written}
-use Rattle.audit.proofs.SegmentFacts.{left_kept, inside_none}
+use Rattle.audit.proofs.SegmentFacts.{left_kept, left_broken, inside_none}
 use Rattle.audit.proofs.segments.segment_tick.Goals as goal
 
 pub loop-t-init : goal.loop-t-init
@@ -21,6 +21,13 @@ loop-t-preserved g c = record {
   before = below_more _ _ c.loop-t.invariant.before
       (left_kept g.M.Preemption.cuts c.args.sheet.now c.args.run.now c.loop-t.t (omega arith) c.loop-t.inside c.loop-t.invariant.inside (λ l. both_ways c.leaves.result c.if-leaves.false (c.leaves.ensures.1 (subst (λ (v : List Tick). Leaves (get_or v c.loop-t.t Off) c.loop-t.inside) (sym c.as_slice.ensures) l))));
 }
+
+pub returns-then-leaves : goal.returns-then-leaves
+returns-then-leaves g c = (
+  omega arith,
+  left_broken g.M.Preemption.cuts c.args.sheet.now c.args.run.now c.loop-t.t (omega arith) c.loop-t.inside c.loop-t.invariant.inside (subst (λ (v : List Tick). Leaves (get_or v c.loop-t.t Off) c.loop-t.inside) c.as_slice.ensures (c.leaves.ensures.0 c.if-leaves.true)),
+  c.loop-t.invariant.before,
+)
 
 pub returns : goal.returns
 returns g c = λ t b. c.loop-t.invariant.before t (omega arith)

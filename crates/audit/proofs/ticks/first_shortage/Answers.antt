@@ -1,12 +1,10 @@
-use Rattle.supply.specs.Promises.{sbf_of}
+use Rattle.std.proofs.Common.{sym}
 use Rattle.supply.specs.Lawful.{stated_starts}
-use Rattle.audit.proofs.FindingFacts.{short_found, short_missed}
+use Rattle.audit.proofs.FaultFacts.{short_some, short_none}
 use Rattle.audit.proofs.ticks.first_shortage.Goals as goal
 
 pub returns-in_default : goal.returns-in_default
-returns-in_default c =
-    short_missed (sbf_of c.args.sheet.now.supply) c.args.run.now c.in_ok-t.field-0 (stated_starts c.args.sheet.now c.len-valid.ensures.valid) c.in_ok-t.ensures c.in_default.is
+returns-in_default c = sym (short_none _ c.args.run.now (stated_starts c.args.sheet.now c.len-valid.ensures.valid) (rw c.in_default.is at c.in_ok-t.ensures))
 
 pub returns : goal.returns
-returns c =
-    short_found (sbf_of c.args.sheet.now.supply) c.args.run.now c.in_ok-t.field-0 c.in-Some.t (stated_starts c.args.sheet.now c.len-valid.ensures.valid) c.in_ok-t.ensures c.in-Some.is
+returns c = sym (short_some _ c.args.run.now c.in-Some.t (stated_starts c.args.sheet.now c.len-valid.ensures.valid) (rw c.in-Some.is at c.in_ok-t.ensures))

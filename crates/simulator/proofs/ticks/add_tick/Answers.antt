@@ -18,7 +18,7 @@ use Rattle.simulator.proofs.ticks.add_tick.Goals as goal
 pub off_allowed-may-requires : goal.off_allowed-may-requires
 off_allowed-may-requires g c =
     let w : World = world_by g.P.Policy.meaning g.M.Preemption.cuts c.args.sheet.now c.args.mode in
-    let valid = c.len-count.ensures.valid in
+    let valid = c.len-valid.ensures.valid in
     let laws =
     lawful_world w.policy w.cuts w.sheet w.mode valid (g.met.P.Policy.lawful w.sheet valid)
     (λ o b. g.met.M.Preemption.lawful (task_at w.sheet o) (valid.each o b) (c.requires.served o b))
@@ -29,7 +29,7 @@ off_allowed-may-requires g c =
 pub advance-requires-clause-tick : goal.advance-requires-clause-tick
 advance-requires-clause-tick g c =
     let w : World = world_by g.P.Policy.meaning g.M.Preemption.cuts c.args.sheet.now c.args.mode in
-    let cuts : HasCuts w = λ o b. g.met.M.Preemption.lawful (task_at w.sheet o) (c.len-count.ensures.valid.each o b) (c.requires.served o b) in
+    let cuts : HasCuts w = λ o b. g.met.M.Preemption.lawful (task_at w.sheet o) (c.len-valid.ensures.valid.each o b) (c.requires.served o b) in
     c.pick-tick.ensures.may w c.args.t cuts c.requires.kept
 
 pub overflow_add-count : goal.overflow_add-count

@@ -1,0 +1,53 @@
+-- The first job of each task that is not done.
+use Rattle.std.specs.Prelude.{◌≡◌, ℕ, ◌<◌, ◌≤◌, List, length, slice_index_or, Option, Some, None}
+use Rattle.run_model.specs.declared.run.Run.{Run}
+use Rattle.run_model.specs.Runs.{job_at}
+use Rattle.audit.specs.declared.arrivals.Arrival.{Arrival}
+use Rattle.audit.specs.declared.undone.UndoneJobs.{UndoneJobs}
+use Rattle.audit.specs.ArrivalOrder.{arrival_at, IsOrder}
+use Rattle.audit.specs.ServiceCounts.{IsServed}
+
+abbrev pub served_at : List ℕ → ℕ → ℕ
+served_at served k = slice_index_or served k 0
+
+-- job k is of task o, and not done with this service
+pub record IsLeft (run : Run) (served : List ℕ) (o k : ℕ) : Type 0 where
+  pub listed : k < length run.jobs
+  pub task : (job_at run k).task ≡ o
+  pub not_done : served_at served k < (job_at run k).cost
+
+-- the job of task o that is left and arrived first; None exactly where none is left
+abbrev pub IsFront : Run → List ℕ → ℕ → Option ℕ → Type 0
+IsFront run served o None = (n : ℕ) → IsLeft run served o n → ⊥
+IsFront run served o (Some f) = IsLeft run served o f × ((n : ℕ) → IsLeft run served o n → (job_at run f).arrival ≤ (job_at run n).arrival)
+
+-- no job of task o is left before this place
+pub record AreDoneBefore (run : Run) (served : List ℕ) (order : List Arrival) (o place : ℕ) : Type 0 where
+  pub within : place ≤ length order
+  pub done : (i : ℕ) → i < place → IsLeft run served o (arrival_at order i).job → ⊥
+
+-- the same for each task
+abbrev pub ArePlaces : Run → List ℕ → List Arrival → List ℕ → Type 0
+ArePlaces run served order places = (o : ℕ) → o < length places → AreDoneBefore run served order o (slice_index_or places o 0)
+
+-- every job is of one of the first tasks
+abbrev pub AreBelow : Run → ℕ → Type 0
+AreBelow run tasks = (k : ℕ) → k < length run.jobs → (job_at run k).task < tasks
+
+-- for each task a place, by the service of the jobs
+pub record IsReadyAt (run : Run) (served : List ℕ) (order : List Arrival) (places : List ℕ) : Type 0 where
+  pub count : length served ≡ length run.jobs
+  pub ordered : IsOrder run order
+  pub tasks : AreBelow run (length places)
+  pub past : ArePlaces run served order places
+
+abbrev pub IsReady : Run → UndoneJobs → Type 0
+IsReady run p = IsReadyAt run p.served.items p.order.items p.places.items
+
+-- how far the run has come at t
+pub record AreUndoneAt (run : Run) (t : ℕ) (served : List ℕ) (order : List Arrival) (places : List ℕ) : Type 0 where
+  pub counted : IsServed run t served
+  pub ready : IsReadyAt run served order places
+
+abbrev pub AreUndone : Run → ℕ → UndoneJobs → Type 0
+AreUndone run t p = AreUndoneAt run t p.served.items p.order.items p.places.items

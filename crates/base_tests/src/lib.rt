@@ -1,13 +1,9 @@
-//! Tests of lists, curve, poet_io, task_sheet, supply, policy, preemption and run_model: values
-//! worked out by hand, and what no clause shows.
+//! Tests of curve, task_sheet, supply, policy, preemption and run_model: values worked out by hand,
+//! and what no clause shows.
 #![tactic(auto)]
 
 #[cfg(test)]
-mod items;
-#[cfg(test)]
 mod makers;
-#[cfg(test)]
-mod numbers;
 #[cfg(test)]
 mod policies;
 #[cfg(test)]
@@ -18,8 +14,6 @@ mod prefixes;
 mod runs;
 #[cfg(test)]
 mod sheets;
-#[cfg(test)]
-mod shelves;
 #[cfg(test)]
 mod stairs;
 #[cfg(test)]

@@ -1,20 +1,26 @@
 //! Deadlines.
+ghost use Rattle.task_sheet.specs.declared.tasks.PolicyKind.TheVariants as kind;
+ghost use Rattle.task_sheet.specs.Words.{policy_word};
 ghost use Rattle.policy.specs.Policies.{edf_meaning};
 ghost use Rattle.policy.specs.Lawful.{edf_lawful};
 
 use crate::keys::{Cap, Key};
 use crate::policy::Policy;
-use task_sheet::{Job, Sheet};
+use task_sheet::{Job, PolicyKind, Sheet};
 
 /// Earliest deadline first: a job whose absolute deadline is earlier is more urgent.
 pub struct Edf;
 
 impl Policy for Edf {
-    const NAME: &'static str = "edf";
+    ghost name = { policy_word kind.Edf };
 
     ghost meaning = { edf_meaning };
 
     ghost lawful = { edf_lawful };
+
+    fn name() -> &'static str {
+        PolicyKind::Edf.word()
+    }
 
     fn key(sheet: &Sheet, job: &Job) -> Key {
         Key {

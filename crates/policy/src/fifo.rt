@@ -1,20 +1,26 @@
 //! Arrivals.
+ghost use Rattle.task_sheet.specs.declared.tasks.PolicyKind.TheVariants as kind;
+ghost use Rattle.task_sheet.specs.Words.{policy_word};
 ghost use Rattle.policy.specs.Policies.{fifo_meaning};
 ghost use Rattle.policy.specs.Lawful.{fifo_lawful};
 
 use crate::keys::{Cap, Key};
 use crate::policy::Policy;
-use task_sheet::{Job, Sheet};
+use task_sheet::{Job, PolicyKind, Sheet};
 
 /// First in, first out: a job that arrived earlier is more urgent.
 pub struct Fifo;
 
 impl Policy for Fifo {
-    const NAME: &'static str = "fifo";
+    ghost name = { policy_word kind.Fifo };
 
     ghost meaning = { fifo_meaning };
 
     ghost lawful = { fifo_lawful };
+
+    fn name() -> &'static str {
+        PolicyKind::Fifo.word()
+    }
 
     fn key(_sheet: &Sheet, job: &Job) -> Key {
         Key {

@@ -1,24 +1,31 @@
 //! Fixed priorities.
+ghost use Rattle.task_sheet.specs.declared.tasks.PolicyKind.TheVariants as kind;
+ghost use Rattle.task_sheet.specs.Words.{policy_word};
 ghost use Rattle.policy.specs.Policies.{fp_meaning};
 ghost use Rattle.policy.specs.Lawful.{fp_lawful};
 
 use crate::keys::{Cap, Key};
 use crate::policy::Policy;
-use task_sheet::{Job, Sheet};
+use lists::limits::GREATEST_NUMBER;
+use task_sheet::{Job, PolicyKind, Sheet};
 
 /// Fixed priority: a task of a greater priority is more urgent.
 pub struct Fp;
 
 impl Policy for Fp {
-    const NAME: &'static str = "fp";
+    ghost name = { policy_word kind.Fp };
 
     ghost meaning = { fp_meaning };
 
     ghost lawful = { fp_lawful };
 
+    fn name() -> &'static str {
+        PolicyKind::Fp.word()
+    }
+
     fn key(sheet: &Sheet, job: &Job) -> Key {
         Key {
-            high: 1_000_000_000 - sheet.task(job.task).priority as i64,
+            high: GREATEST_NUMBER as i64 - sheet.task(job.task).priority as i64,
             low: 0,
         }
     }

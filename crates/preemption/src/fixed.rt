@@ -1,4 +1,5 @@
 //! Preemption between the segments that a task fixes.
+ghost use Rattle.std.specs.Prelude.{codes};
 ghost use Rattle.preemption.specs.Kinds.{fixed_meaning};
 ghost use Rattle.preemption.specs.Lawful.{fixed_lawful, fixed_tabled};
 
@@ -13,11 +14,15 @@ use task_sheet::{Job, Task};
 pub struct FixedCut;
 
 impl Preemption for FixedCut {
-    const NAME: &'static str = "fixed";
+    ghost name = { codes "fixed" };
 
     ghost cuts = { fixed_meaning };
 
     ghost lawful = { fixed_lawful };
+
+    fn name() -> &'static str {
+        "fixed"
+    }
 
     fn cuttable(_task: &Task, job: &Job, s: u64) -> bool {
         is_prefix_sum(job.segs.as_slice(), s) || job.cost <= s

@@ -1,4 +1,5 @@
 //! Preemption between segments that each job chooses.
+ghost use Rattle.std.specs.Prelude.{codes};
 ghost use Rattle.preemption.specs.Kinds.{floating_meaning};
 ghost use Rattle.preemption.specs.Lawful.{floating_lawful, floating_tabled};
 
@@ -11,11 +12,15 @@ use task_sheet::{Job, Task};
 pub struct FloatingCut;
 
 impl Preemption for FloatingCut {
-    const NAME: &'static str = "floating";
+    ghost name = { codes "floating" };
 
     ghost cuts = { floating_meaning };
 
     ghost lawful = { floating_lawful };
+
+    fn name() -> &'static str {
+        "floating"
+    }
 
     fn cuttable(_task: &Task, job: &Job, s: u64) -> bool {
         is_prefix_sum(job.segs.as_slice(), s) || job.cost <= s

@@ -1,4 +1,5 @@
 //! Each task by its own kind.
+ghost use Rattle.std.specs.Prelude.{codes};
 ghost use Rattle.preemption.specs.Kinds.{per_task_meaning};
 ghost use Rattle.preemption.specs.Lawful.{per_task_lawful, per_task_tabled};
 
@@ -14,11 +15,15 @@ use task_sheet::{Cut, Job, Task};
 pub struct PerTask;
 
 impl Preemption for PerTask {
-    const NAME: &'static str = "per-task";
+    ghost name = { codes "per-task" };
 
     ghost cuts = { per_task_meaning };
 
     ghost lawful = { λ task ok _. per_task_lawful task ok };
+
+    fn name() -> &'static str {
+        "per-task"
+    }
 
     fn cuttable(task: &Task, job: &Job, s: u64) -> bool {
         match &task.cut {

@@ -4,6 +4,7 @@ use Rattle.std.specs.Prelude.{nat_le}
 use Rattle.std.proofs.lemmas.Bool.{cases_lt, cases_eq, and_parts, leb-true, le-leb}
 use Rattle.std.proofs.lemmas.Bool.Decides.{nat_tests}
 use Rattle.lists.proofs.SearchFacts.{greatest_passes}
+use Rattle.lists.proofs.SumFacts.{at_most_one}
 use Rattle.curve.specs.Curves.{alpha_of}
 use Rattle.curve.proofs.CurveFacts.{alpha_mono}
 use Rattle.lists.proofs.FirstFacts.{all_parts, all_from}
@@ -18,7 +19,7 @@ use Rattle.simulated_run.specs.declared.mode.Mode.{Mode}
 use Rattle.simulated_run.specs.declared.mode.Mode.TheVariants.{Dense, Seed}
 use Rattle.simulated_run.specs.Jobs.{new_job}
 use Rattle.simulated_run.specs.SimulatedRun.{World, Moment, with_job, with_tick, admits, allowance_of, arriving, after_arriving, is_off, may_be_off, choice, room, add_job, add_jobs, arrive_of, arrive_below, add_tick, moment_after, simulated_run}
-use Rattle.simulated_run.proofs.RunFacts.{at_most_one, job_kept, job_new, jobs_more, arrivals_more, arrivals_le}
+use Rattle.simulated_run.proofs.RunFacts.{job_kept, job_new, jobs_more, arrivals_more, arrivals_le}
 use Rattle.simulated_run.proofs.JobFacts.{new_fits_by}
 use Rattle.simulated_run.proofs.Soundness.{IsLawful, IsSound, HasRoom}
 use Rattle.simulated_run.proofs.AddedJobs.{sound_job}

@@ -5,7 +5,8 @@ use Rattle.std.proofs.Math.ListN.{set}
 use Rattle.std.proofs.lemmas.Bool.{cases_Bool, cases_lt, cases_eq, ne_eqb, eq-eqb}
 use Rattle.std.proofs.lemmas.Bool.Decides.{nat_tests}
 use Rattle.std.proofs.lemmas.List.{get_or_append_left, get_or_at, get_or-set_same, get_or-set_other, length-set}
-use Rattle.lists.proofs.SearchFacts.{first_failing, first_none, first_some}
+use Rattle.lists.specs.Searches.{OnlyFails}
+use Rattle.lists.proofs.SearchFacts.{only_same, first_failing, first_none, first_some}
 use Rattle.task_sheet.specs.SheetParts.{SheetParts}
 use Rattle.task_sheet.specs.Sheets.{task_at}
 use Rattle.task_sheet.specs.declared.tasks.Job.{Job}
@@ -22,14 +23,14 @@ use Rattle.simulated_run.proofs.GrowthFacts.{length_more}
 use Rattle.simulated_run.proofs.RunFacts.{job_kept, job_new, jobs_more, tick_kept, tick_new, ticks_more, service_new, service_unlisted}
 use Rattle.simulator.specs.declared.simulation.Rank.{Rank}
 use Rattle.simulator.specs.Ranks.{rank_at, rank_cmp}
-use Rattle.simulator.specs.SimulationState.{IsQueue, left_at, IsKnown, IsKeptAt, OnlyInside, CanRun}
+use Rattle.simulator.specs.SimulationState.{IsQueue, left_at, IsKnown, IsKeptAt, CanRun}
 use Rattle.simulator.proofs.LimitFacts.{within_more}
 use Rattle.simulator.proofs.QueueFacts.{queue_push, Tells}
 
 -- the job inside a segment
 
 only_more : (cut new : ℕ → Bool) (n m : ℕ) (x : Option ℕ) → m ≡ suc n → ((k : ℕ) → k < n → new k ≡ cut k) →
-    new n ≡ true → OnlyInside cut n x → OnlyInside new m x
+    new n ≡ true → OnlyFails cut n x → OnlyFails new m x
 only_more cut new n m None e same last h = λ k b. elim (cases_lt k n) [
   | inl c ↦ same k c ∙ h k c
   | inr c ↦ let at : n ≡ k = omega arith in subst (λ w. new w ≡ true) at last
@@ -43,26 +44,22 @@ only_more cut new n m (Some j) e same last h = (
   ]),
 )
 
-only_same : (cut new : ℕ → Bool) (n : ℕ) (x : Option ℕ) → ((k : ℕ) → k < n → new k ≡ cut k) → OnlyInside cut n x → OnlyInside new n x
-only_same cut new n None same h = λ k b. same k b ∙ h k b
-only_same cut new n (Some j) same h = (h.0, same j h.0 ∙ h.1, (λ k b ne. same k b ∙ h.2 k b ne))
-
-others_cut : (cut : ℕ → Bool) (n : ℕ) (x : Option ℕ) (j k : ℕ) → OnlyInside cut n x → CanRun x j → k < n → k ≢ j → cut k ≡ true
+others_cut : (cut : ℕ → Bool) (n : ℕ) (x : Option ℕ) (j k : ℕ) → OnlyFails cut n x → CanRun x j → k < n → k ≢ j → cut k ≡ true
 others_cut cut n None j k h can b ne = h k b
 others_cut cut n (Some i) j k h can b ne = h.2 k b (λ e. ne (e ∙ sym can))
 
 -- where job j ran, at most j is inside a segment
 only_ran : (cut new : ℕ → Bool) (n j : ℕ) (x : Option ℕ) → j < n → CanRun x j →
-    ((k : ℕ) → k < n → k ≢ j → new k ≡ cut k) → OnlyInside cut n x → OnlyInside new n (cond (new j) None (Some j))
+    ((k : ℕ) → k < n → k ≢ j → new k ≡ cut k) → OnlyFails cut n x → OnlyFails new n (cond (new j) None (Some j))
 only_ran cut new n j x b can same h = elim (cases_Bool (new j)) [
   | inl e ↦
-      subst (λ (w : Bool). OnlyInside new n (cond w None (Some j))) (sym e)
+      subst (λ (w : Bool). OnlyFails new n (cond w None (Some j))) (sym e)
       (λ k c. elim (cases_eq k j) [ inl at ↦ subst (λ w. new w ≡ true) (sym at) e | inr ne ↦ same k c ne ∙ others_cut cut n x j k h can c ne ])
-  | inr e ↦ subst (λ (w : Bool). OnlyInside new n (cond w None (Some j))) (sym e) (b, e, (λ k c ne. same k c ne ∙ others_cut cut n x j k h can c ne))
+  | inr e ↦ subst (λ (w : Bool). OnlyFails new n (cond w None (Some j))) (sym e) (b, e, (λ k c ne. same k c ne ∙ others_cut cut n x j k h can c ne))
 ]
 
 -- the search finds the same job
-only_first : (cut : ℕ → Bool) (n : ℕ) (x : Option ℕ) → OnlyInside cut n x → first_failing cut n ≡ x
+only_first : (cut : ℕ → Bool) (n : ℕ) (x : Option ℕ) → OnlyFails cut n x → first_failing cut n ≡ x
 only_first cut n None h = first_none cut n h
 only_first cut n (Some j) h = first_some cut j n h.0 h.1 (λ k b. h.2 k (let c = h.0 in omega arith) (λ e. omega arith))
 
@@ -176,7 +173,7 @@ module _ (p : PolicyMeaning) (m : CutMeaning) (sheet : SheetParts) (t : ℕ) (ru
           | inr ne ↦ omega (arith, kept.amounts k c, other k ne, get_or-set_other left j k rest 0 ne)
         ];
         waiting = waiting;
-        segment = subst (λ (v : Bool). OnlyInside (λ k. can_cut m sheet (with_tick run (Runs j)) k (suc t)) (length run.jobs) (cond v None (Some j))) new_cut
+        segment = subst (λ (v : Bool). OnlyFails (λ k. can_cut m sheet (with_tick run (Runs j)) k (suc t)) (length run.jobs) (cond v None (Some j))) new_cut
             (only_ran (λ k. can_cut m sheet run k t) (λ k. can_cut m sheet (with_tick run (Runs j)) k (suc t)) (length run.jobs) j
             x b can (λ k c ne. ap (m.cuttable (task_at sheet (job_at run k).task) (job_at run k)) (other k ne)) kept.segment);
         within = kept.within;

@@ -4,6 +4,7 @@ use Rattle.std.specs.Global.{Vec}
 use Rattle.std.specs.BTreeMap.{BTreeMap, Updates}
 use Rattle.std.proofs.Math.ListN.{set}
 use Rattle.std.proofs.lemmas.Bool.{cases_lt, false_from_ne_true}
+use Rattle.lists.specs.Searches.{OnlyFails}
 use Rattle.lists.proofs.SearchFacts.{best_found, IsFound}
 use Rattle.task_sheet.specs.SheetParts.{SheetParts}
 use Rattle.task_sheet.specs.Sheets.{task_at}
@@ -21,7 +22,7 @@ use Rattle.simulated_run.specs.SimulatedRun.{World, Moment, with_tick, add_tick,
 use Rattle.simulator.specs.declared.simulation.Simulation.{Simulation}
 use Rattle.simulator.specs.declared.simulation.Rank.{Rank}
 use Rattle.simulator.specs.Ranks.{rank_at, rank_of, rank_cmp}
-use Rattle.simulator.specs.SimulationState.{IsKeptAt, IsKeptBy, IsQueue, IsFirstEntry, MayBe, CanRun, OnlyInside, HasCuts, left_at, run_of}
+use Rattle.simulator.specs.SimulationState.{IsKeptAt, IsKeptBy, IsQueue, IsFirstEntry, MayBe, CanRun, HasCuts, left_at, run_of}
 use Rattle.simulator.proofs.WindowFacts.{are_counts_more, has_arrivals_tick}
 use Rattle.simulator.proofs.QueueFacts.{queue_first, queue_none, queue_run, queue_done}
 use Rattle.simulator.proofs.KeepFacts.{kept_tells, kept_inside, kept_run, kept_tick}
@@ -68,8 +69,8 @@ module _ (w : World) (cuts : HasCuts w) (t : ℕ) (m : Simulation) (kept : IsKep
 
   may_at : (x : Option ℕ) → m.inside ≡ x → MayBe m (choice w (run_of m) t)
   may_at (Some k) e =
-      let seg : OnlyInside (λ i. can_cut w.cuts w.sheet (run_of m) i t) (length m.jobs.items) (Some k) =
-      subst (λ (i : Option ℕ). OnlyInside (λ i. can_cut w.cuts w.sheet (run_of m) i t) (length m.jobs.items) i) e kept.segment in
+      let seg : OnlyFails (λ i. can_cut w.cuts w.sheet (run_of m) i t) (length m.jobs.items) (Some k) =
+      subst (λ (i : Option ℕ). OnlyFails (λ i. can_cut w.cuts w.sheet (run_of m) i t) (length m.jobs.items) i) e kept.segment in
       let can : CanRun m.inside k = subst (λ (i : Option ℕ). CanRun i k) (sym e) refl in
       let may : MayBe m (Runs k) = (seg.0, over_cut k seg.0 seg.1, can) in
       subst (MayBe m) (sym (chosen_inside w t (run_of m) m.left.items m.queue m.inside kept k e)) may

@@ -11,7 +11,7 @@ use Rattle.task_sheet.specs.declared.tasks.Job.{Job}
 use Rattle.run_model.specs.declared.run.Run.{Run}
 use Rattle.run_model.specs.declared.run.Tick.{Tick}
 use Rattle.run_model.specs.Runs.{job_at, is_on, ticks_in, tick_at}
-use Rattle.run_model.proofs.ServiceFacts.{ticks_in_none, ticks_in_more}
+use Rattle.run_model.proofs.ServiceFacts.{ticks_in_none, ticks_in_more, ticks_in_split}
 use Rattle.simulated_run.specs.SimulatedRun.{World, with_job, with_tick}
 use Rattle.simulated_run.proofs.Soundness.{IsSound}
 use Rattle.simulated_run.proofs.Stages.{IsBetween}
@@ -20,7 +20,6 @@ use Rattle.windows.specs.Arrivals.{IsPast}
 use Rattle.windows.specs.Crowds.{AreArrivals}
 use Rattle.windows.specs.Supplied.{AreCounts, ArePromised}
 use Rattle.windows.proofs.CrowdFacts.{arrival_job}
-use Rattle.windows.proofs.TickCounts.{ticks_in_split}
 use Rattle.simulator.proofs.SameAnswers.{lists_none, lists_tick, lists_own, lists_other, counts_tick}
 use Rattle.simulator.specs.SimulationState.{HasArrivals}
 

@@ -2,6 +2,7 @@
 use Rattle.std.specs.Prelude.{◌≡◌, ◌≢◌, ℕ, ◌+◌, ◌<◌, ◌≤◌, List, Bool, true, false, length, Option, Some, None, slice_index_or}
 use Rattle.std.specs.BTreeMap.{BTreeMap, get, IsLowerBound}
 use Rattle.std.specs.Global.{Vec}
+use Rattle.lists.specs.Searches.{OnlyFails}
 use Rattle.task_sheet.specs.SheetParts.{SheetParts}
 use Rattle.task_sheet.specs.Sheets.{task_at}
 use Rattle.task_sheet.specs.declared.tasks.Cut.{Cut}
@@ -58,11 +59,6 @@ pub record IsQueue (p : PolicyMeaning) (sheet : SheetParts) (jobs : List Job) (l
   pub sound : (q : Rank) (k : ℕ) → get rank_cmp queue q ≡ Some k → IsEntry p sheet jobs left q k
   pub complete : (k : ℕ) → k < length jobs → 0 < left_at left k → get rank_cmp queue (rank_of p sheet jobs k) ≡ Some k
 
--- at most this one of the first n cannot be cut
-abbrev pub OnlyInside : (ℕ → Bool) → ℕ → Option ℕ → Type 0
-OnlyInside cut n None = (k : ℕ) → k < n → cut k ≡ true
-OnlyInside cut n (Some j) = (j < n) × (cut j ≡ false) × ((k : ℕ) → k < n → k ≢ j → cut k ≡ true)
-
 -- where the segments of a job float, all but the last are as long as may be
 abbrev pub FloatsBy : Cut → Job → Type 0
 FloatsBy Full j = Unit {0}
@@ -93,7 +89,7 @@ pub record IsKeptAt (p : PolicyMeaning) (m : CutMeaning) (sheet : SheetParts) (t
   pub lefts : length left ≡ length run.jobs
   pub amounts : (k : ℕ) → k < length run.jobs → left_at left k + service_of run k t ≡ (job_at run k).cost
   pub waiting : IsQueue p sheet run.jobs left queue
-  pub segment : OnlyInside (λ k. can_cut m sheet run k t) (length run.jobs) inside
+  pub segment : OnlyFails (λ k. can_cut m sheet run k t) (length run.jobs) inside
   pub within : IsWithin run.jobs
 
 -- for each of n tasks, when its jobs arrived

@@ -1,4 +1,5 @@
 //! Numbers.
+ghost use Rattle.std.specs.Prelude.{codes};
 ghost use Rattle.toy_policy.specs.Numbered.{by_number_meaning};
 ghost use Rattle.toy_policy.specs.Lawful.{by_number_lawful};
 
@@ -10,11 +11,15 @@ use task_sheet::{Job, Sheet};
 pub struct ByNumber;
 
 impl Policy for ByNumber {
-    const NAME: &'static str = "by-number";
+    ghost name = { codes "by-number" };
 
     ghost meaning = { by_number_meaning };
 
     ghost lawful = { by_number_lawful };
+
+    fn name() -> &'static str {
+        "by-number"
+    }
 
     fn key(_sheet: &Sheet, job: &Job) -> Key {
         Key {

@@ -6,7 +6,7 @@ use Rattle.task_sheet.specs.declared.tasks.Job.{Job}
 use Rattle.run_model.specs.declared.run.Tick.{Tick}
 use Rattle.run_model.specs.Runs.{is_on}
 use Rattle.simulated_run.specs.SimulatedRun.{World, Moment, may_be_off, with_tick}
-use Rattle.simulated_run.proofs.RunFacts.{at_most_one}
+use Rattle.lists.proofs.SumFacts.{at_most_one}
 use Rattle.windows.specs.Supplied.{MayBeOff}
 use Rattle.simulator.proofs.SameAnswers.{off_same}
 use Rattle.simulator.specs.SimulationState.{IsKeptAt, HasCuts, run_of, moment_of, world_by}

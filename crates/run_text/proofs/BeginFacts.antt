@@ -3,12 +3,13 @@ use Rattle.std.proofs.Common.{◌≡◌, ℕ, suc, ◌-◌, ◌<◌, ◌≤◌, 
 use Rattle.std.specs.Prelude.{replicate}
 use Rattle.std.specs.Option.{option_map, option_and_then}
 use Rattle.std.proofs.lemmas.Bool.{cases_Bool}
+use Rattle.lists.specs.Limits.{greatest_number}
 use Rattle.task_sheet.specs.declared.tasks.Job.{Job}
 use Rattle.run_model.specs.declared.run.Tick.{Tick}
 use Rattle.run_model.specs.declared.run.Tick.TheVariants.{Off, Idle, Runs}
 use Rattle.run_text.specs.declared.stage.Stage.{Stage}
 use Rattle.run_text.specs.declared.stage.Stage.TheVariants.{Head, Counts, Jobs, Ticks, Over}
-use Rattle.run_text.specs.Text.{Stretch, stretch, limit, IsSegment, IsJob, IsTickOf}
+use Rattle.run_text.specs.Text.{Stretch, stretch, IsSegment, IsJob, IsTickOf}
 use Rattle.run_text.specs.Words.{is_text, words_of}
 use Rattle.run_text.specs.Lines.{make_job, counts_of, job_of, stretch_of}
 use Rattle.run_text.specs.Parts.{Part, part, before_jobs, is_repeated, with_stretch, after_at, after_line, IsSmall}
@@ -85,7 +86,7 @@ record SomeJob (room : ℕ) (w : List ℕ) : Type 0 where
   front : HasFront (job_front job) w
 
 abbrev WithSegments : ℕ → List ℕ → ℕ → ℕ → ℕ → Type 0
-WithSegments room w task arrival cost = (segs : List ℕ) × IsSmallList limit room segs × HasFront (job_front (make_job task arrival cost segs)) w
+WithSegments room w task arrival cost = (segs : List ℕ) × IsSmallList greatest_number room segs × HasFront (job_front (make_job task arrival cost segs)) w
 
 abbrev WithCost : ℕ → List ℕ → ℕ → ℕ → Type 0
 WithCost room w task arrival = (cost : ℕ) × (cost < 1000000001) × WithSegments room w task arrival cost
@@ -94,7 +95,7 @@ abbrev WithArrival : ℕ → List ℕ → ℕ → Type 0
 WithArrival room w task = (arrival : ℕ) × (arrival < 1000000001) × WithCost room w task arrival
 
 some_segments : (room : ℕ) (w : List ℕ) (task arrival cost : ℕ) → WithSegments room w task arrival cost ⊎ (WithSegments room w task arrival cost → ⊥)
-some_segments room w task arrival cost = elim (some_list limit room (λ segs. HasFront (job_front (make_job task arrival cost segs)) w) (λ segs. has_front_or_not (job_front (make_job task arrival cost segs)) w)) [
+some_segments room w task arrival cost = elim (some_list greatest_number room (λ segs. HasFront (job_front (make_job task arrival cost segs)) w) (λ segs. has_front_or_not (job_front (make_job task arrival cost segs)) w)) [
   | inl s ↦ inl s
   | inr none ↦ inr (λ s. none s.0 s.1 s.2)
 ]

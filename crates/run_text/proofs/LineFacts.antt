@@ -4,13 +4,14 @@ use Rattle.std.specs.List.{All, AllByRecursion, flat_map}
 use Rattle.std.specs.Option.{option_map, option_and_then}
 use Rattle.std.proofs.lemmas.Bool.{cases_Bool, and_parts, ne_eqb, eq-eqb, both_ways}
 use Rattle.std.proofs.lemmas.List.Elements.{All-nil, All-cons}
+use Rattle.lists.specs.Limits.{greatest_number}
 use Rattle.poet_io.specs.Decimals.{number_in}
 use Rattle.poet_io.proofs.RangeFacts.{number_in-decimal, number_in-Some}
 use Rattle.task_sheet.specs.declared.tasks.Job.{Job}
 use Rattle.run_model.specs.declared.run.Run.{Run}
 use Rattle.run_model.specs.declared.run.Tick.{Tick}
 use Rattle.run_model.specs.declared.run.Tick.TheVariants.{Off, Idle, Runs}
-use Rattle.run_text.specs.Text.{Stretch, stretch, tick_words, stretch_line, segment_text, job_line, counts_line, limit, IsSegment, IsJob, IsTickOf}
+use Rattle.run_text.specs.Text.{Stretch, stretch, tick_words, stretch_line, segment_text, job_line, counts_line, IsSegment, IsJob, IsTickOf}
 use Rattle.run_text.specs.Words.{words_of, is_text}
 use Rattle.run_text.specs.Lines.{both, counts_from, counts_of, job_number, segments_from, make_job, job_with, job_from, job_of, stretch_with, named_job, stretch_from, stretch_of}
 use Rattle.run_text.proofs.WordFacts.{Lacks, lacks_append, decimal_lacks, words_last, words_more, words_of-numbers, text_is}
@@ -265,7 +266,7 @@ job_front-lacks j h =
     let middle : Lacks 10 (a ++ (codes " " ++ (c ++ s))) = lacks_append 10 a (codes " " ++ (c ++ s)) (decimal_lacks 10 j.arrival (omega arith) (omega (arith, h.arrival))) (refl, last) in
     (refl, (refl, lacks_append 10 t (codes " " ++ (a ++ (codes " " ++ (c ++ s)))) (decimal_lacks 10 j.task (omega arith) (omega (arith, h.task))) (refl, middle)))
 
-job_number-decimal : (n : ℕ) → n ≤ limit → job_number (decimal n) ≡ Some n
+job_number-decimal : (n : ℕ) → n ≤ greatest_number → job_number (decimal n) ≡ Some n
 job_number-decimal n h = number_in-decimal 0 1000000000 n (omega arith) (omega arith) h
 
 -- a number that is not the greatest one

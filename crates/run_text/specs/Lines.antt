@@ -1,11 +1,12 @@
 -- What a line of a run's text says, read by itself.
 use Rattle.std.specs.Prelude.{ℕ, zero, suc, ◌==◌, ◌&&◌, if◌then◌else◌, List, [], ◌∷◌, ◌++◌, length, codes, Option, Some, None}
 use Rattle.std.specs.Option.{option_map, option_and_then}
+use Rattle.lists.specs.Limits.{most_jobs, most_ticks, greatest_number}
 use Rattle.poet_io.specs.Decimals.{number_in}
 use Rattle.task_sheet.specs.declared.tasks.Job.{Job}
 use Rattle.run_model.specs.declared.run.Tick.{Tick}
 use Rattle.run_model.specs.declared.run.Tick.TheVariants.{Off, Idle, Runs}
-use Rattle.run_text.specs.Text.{Stretch, stretch, limit}
+use Rattle.run_text.specs.Text.{Stretch, stretch}
 use Rattle.run_text.specs.Words.{words_of, is_text}
 
 -- the pair, if both are there
@@ -15,7 +16,7 @@ both _ _ = None
 
 -- the numbers of jobs and ticks of the words jobs J ticks T
 abbrev pub counts_from : List (List ℕ) → Option (ℕ × ℕ)
-counts_from (a ∷ (j ∷ (b ∷ (t ∷ [])))) = if is_text a (codes "jobs") && is_text b (codes "ticks") then both (number_in 0 20000 j) (number_in 0 100000 t) else None
+counts_from (a ∷ (j ∷ (b ∷ (t ∷ [])))) = if is_text a (codes "jobs") && is_text b (codes "ticks") then both (number_in 0 most_jobs j) (number_in 0 most_ticks t) else None
 counts_from _ = None
 
 -- the line of the counts
@@ -24,7 +25,7 @@ counts_of line = counts_from (words_of line)
 
 -- a number of a job
 abbrev pub job_number : List ℕ → Option ℕ
-job_number word = number_in 0 limit word
+job_number word = number_in 0 greatest_number word
 
 -- the segments behind these, one a word, of which there are at most so many
 abbrev pub segments_from : ℕ → List ℕ → List (List ℕ) → Option (List ℕ)

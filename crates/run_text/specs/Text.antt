@@ -1,5 +1,6 @@
 -- The one text of each run.
 use Rattle.std.specs.Prelude.{◌≡◌, ℕ, ◌+◌, ◌<◌, ◌≤◌, ◌==◌, Bool, true, false, List, [], ◌∷◌, ◌++◌, length, codes, decimal, All, flat_map, sum_by, if◌then◌else◌}
+use Rattle.lists.specs.Limits.{greatest_number, most_jobs, most_ticks, most_segments}
 use Rattle.poet_io.specs.Texts.{Format}
 use Rattle.task_sheet.specs.declared.tasks.Job.{Job}
 use Rattle.run_model.specs.declared.run.Run.{Run}
@@ -60,20 +61,16 @@ abbrev pub text_of : Run → List ℕ
 text_of run =
     codes "poet-run 1\n" ++ (counts_line run ++ (flat_map job_line run.jobs ++ (flat_map stretch_line (stretches_of run.ticks) ++ codes "end\n")))
 
--- the greatest number that a job's line may have
-abbrev pub limit : ℕ
-limit = 1000000000
-
 -- a segment's length is in range
 abbrev pub IsSegment : ℕ → Type 0
-IsSegment n = n ≤ limit
+IsSegment n = n ≤ greatest_number
 
 -- a job's numbers are in range, and it is released at its arrival, since its line says no release
 pub record IsJob (j : Job) : Type 0 where
-  pub task : j.task ≤ limit
-  pub arrival : j.arrival ≤ limit
+  pub task : j.task ≤ greatest_number
+  pub arrival : j.arrival ≤ greatest_number
   pub released : j.release ≡ j.arrival
-  pub cost : j.cost ≤ limit
+  pub cost : j.cost ≤ greatest_number
   pub segs : All IsSegment j.segs
 
 -- the tick runs one of the first n jobs, or none
@@ -88,9 +85,9 @@ segments_of jobs = sum_by (λ j. length j.segs) jobs
 
 -- the run is small enough to be written, its numbers are in range, and its ticks run only its jobs
 pub record IsWithinLimits (run : Run) : Type 0 where
-  pub few_jobs : length run.jobs ≤ 20000
-  pub few_ticks : length run.ticks ≤ 100000
-  pub few_segments : segments_of run.jobs ≤ 1000000
+  pub few_jobs : length run.jobs ≤ most_jobs
+  pub few_ticks : length run.ticks ≤ most_ticks
+  pub few_segments : segments_of run.jobs ≤ most_segments
   pub jobs : All IsJob run.jobs
   pub ticks : All (IsTickOf (length run.jobs)) run.ticks
 

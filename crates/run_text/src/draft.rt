@@ -2,6 +2,7 @@
 
 ghost use Rattle.std.specs.Prelude.{◌≡◌, ◌≤◌, ◌++◌, ◌↔◌, length, replicate, IfOk, OnOk, IsTrue};
 ghost use Rattle.std.specs.Bool.{OnTrue};
+ghost use Rattle.lists.specs.Limits.{most_jobs};
 ghost use Rattle.run_text.specs.Words.{is_text};
 ghost use Rattle.run_text.specs.Parts.{part, nothing_read, before_jobs, is_repeated, after_stretch, after_at, after_line, jobs_to_come, ticks_to_come, IsSmall};
 ghost use Rattle.run_text.specs.Drafts.{part_of, part_if};
@@ -11,12 +12,10 @@ use crate::lines::{read_counts, read_job, read_stretch};
 use crate::stage::Stage;
 use crate::writing::are_same;
 use lists::Items;
+use lists::limits::MOST_SEGMENTS;
 use run_model::{Run, Tick};
 use std::alloc::{AllocError, Global};
 use task_sheet::Job;
-
-/// The most segments of all jobs together.
-const MOST_SEGMENTS: u64 = 1_000_000;
 
 /// The stage where so many job lines are to come, and then so many ticks.
 fn before_jobs(jobs: u64, room: u64, ticks: u64) -> Stage
@@ -99,7 +98,7 @@ impl Draft {
         let Some((jobs, ticks)) = read_counts(line) else {
             return false;
         };
-        self.stage = before_jobs(jobs, MOST_SEGMENTS, ticks);
+        self.stage = before_jobs(jobs, MOST_SEGMENTS as u64, ticks);
         true
     }
 
@@ -129,7 +128,7 @@ impl Draft {
         before: Option<Tick>,
         left: u64,
     ) -> Result<bool, AllocError>
-        requires { length self.old.jobs.items ≤ 20000 }
+        requires { length self.old.jobs.items ≤ most_jobs }
         ensures { IfOk result (λ fits.
             after_stretch before left self.old.jobs.items self.old.ticks.items line.now ≡
             part_if fits self.new) }

@@ -2,6 +2,7 @@
 
 ghost use Rattle.std.specs.Prelude.{◌≡◌, ◌<◌, ◌≤◌, [], length, IfOk, IfSome};
 ghost use Rattle.std.specs.Option.{option_map};
+ghost use Rattle.lists.specs.Limits.{most_jobs, most_ticks, greatest_number};
 ghost use Rattle.poet_io.specs.Decimals.{number_in};
 ghost use Rattle.run_text.specs.Text.{stretch};
 ghost use Rattle.run_text.specs.Unread.{unread};
@@ -9,25 +10,17 @@ ghost use Rattle.run_text.specs.Lines.{counts_of, job_number, segments_from, mak
 
 use crate::words::Words;
 use lists::Items;
+use lists::limits::{GREATEST_NUMBER, MOST_JOBS, MOST_TICKS};
 use poet_io::read_number_in;
 use run_model::Tick;
 use std::alloc::{AllocError, Global};
 use task_sheet::Job;
 
-/// The most jobs of a run.
-const MOST_JOBS: u64 = 20_000;
-
-/// The most ticks of a run.
-const MOST_TICKS: u64 = 100_000;
-
-/// The greatest number in the line of a job.
-const LIMIT: u64 = 1_000_000_000;
-
 /// The numbers of jobs and ticks.
 pub(crate) fn read_counts(line: &[u8]) -> Option<(u64, u64)>
     ensures counts { result ≡ counts_of line.now }
-    ensures few_jobs { IfSome result (λ n. n.0 ≤ 20000) }
-    ensures few_ticks { IfSome result (λ n. n.1 ≤ 100000) }
+    ensures few_jobs { IfSome result (λ n. n.0 ≤ most_jobs) }
+    ensures few_ticks { IfSome result (λ n. n.1 ≤ most_ticks) }
 {
     let mut words = Words::new(line);
     let first = words.next()?;
@@ -37,7 +30,7 @@ pub(crate) fn read_counts(line: &[u8]) -> Option<(u64, u64)>
     if words.next().is_some() || first != b"jobs".as_slice() || second != b"ticks".as_slice() {
         return None;
     }
-    let jobs = read_number_in(jobs, 0, MOST_JOBS)?;
+    let jobs = read_number_in(jobs, 0, MOST_JOBS as u64)?;
     let ticks = read_number_in(ticks, 0, MOST_TICKS)?;
     Some((jobs, ticks))
 }
@@ -86,7 +79,7 @@ fn read_job_stretch(
     jobs: u64,
     left: u64,
 ) -> Option<(Tick, u64)>
-    requires { jobs ≤ 20000 }
+    requires { jobs ≤ most_jobs }
     ensures few { IfSome result (λ s. s.1 ≤ left) }
     ensures stretch { option_map (λ s. stretch s.0 s.1) result ≡
         job_stretch jobs left first.now job.now count.now }
@@ -103,7 +96,7 @@ fn read_job_stretch(
 ///
 /// There are so many jobs, and `left` ticks are left.
 pub(crate) fn read_stretch(line: &[u8], jobs: u64, left: u64) -> Option<(Tick, u64)>
-    requires { jobs ≤ 20000 }
+    requires { jobs ≤ most_jobs }
     ensures few { IfSome result (λ s. s.1 ≤ left) }
     ensures stretch { option_map (λ s. stretch s.0 s.1) result ≡ stretch_of jobs left line.now }
 {
@@ -122,9 +115,9 @@ pub(crate) fn read_stretch(line: &[u8], jobs: u64, left: u64) -> Option<(Tick, u
 /// A number in the line of a job.
 fn read_job_number(word: &[u8]) -> Option<u64>
     ensures number { result ≡ job_number word.now }
-    ensures small { IfSome result (λ n. n ≤ 1000000000) }
+    ensures small { IfSome result (λ n. n ≤ greatest_number) }
 {
-    read_number_in(word, 0, LIMIT)
+    read_number_in(word, 0, GREATEST_NUMBER)
 }
 
 /// The segments that the words are, of which there are at most `room`.

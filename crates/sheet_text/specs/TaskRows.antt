@@ -1,5 +1,6 @@
 use Rattle.std.specs.Prelude.{ℕ, pos, not, List, [], ◌∷◌, ◌++◌, map, length, codes, Option, Some, None, Result, Ok, Err, bytes_eq}
 use Rattle.std.specs.List.{list_any}
+use Rattle.lists.specs.Limits.{greatest_number}
 use Rattle.toml.specs.Data.{Data, string, Items, no_items, item, get}
 use Rattle.task_sheet.specs.declared.tasks.PolicyKind.{PolicyKind}
 use Rattle.task_sheet.specs.declared.tasks.PolicyKind.TheVariants.{Fp, Edf, Fifo}
@@ -35,7 +36,7 @@ unsaid_priority Fifo place = Ok 0
 
 -- a priority, where 0 is one, or none
 abbrev pub priority_rule : PolicyKind → Place → Option Data → Result ℕ SheetRefusal
-priority_rule policy place (Some d) = whole_rule place fields.Priority 0 1000000000 d
+priority_rule policy place (Some d) = whole_rule place fields.Priority 0 greatest_number d
 priority_rule policy place None = unsaid_priority policy place
 
 -- task n, after tasks of these names; no task has a jitter or a priority point

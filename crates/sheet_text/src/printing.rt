@@ -1,6 +1,7 @@
 //! Printing a sheet.
 ghost use Rattle.std.specs.Prelude.{◌≡◌, ◌<◌, ◌≤◌, ◌^◌, true, map, IfOk, OnOk, Some, Ok};
 ghost use Rattle.std.specs.List.{list_all};
+ghost use Rattle.lists.specs.Limits.{most_parts};
 ghost use Rattle.toml.specs.Data.{table, member, no_members};
 ghost use Rattle.toml.specs.View.{view, table_view};
 ghost use Rattle.curve.specs.Validity.{is_step};
@@ -31,7 +32,7 @@ fn number_value(n: u64) -> Value
 }
 
 fn numbers_value(alloc: Global, numbers: &[u64]) -> Result<Value, AllocError>
-    requires { are_in_range 1000 numbers.now ≡ true }
+    requires { are_in_range most_parts numbers.now ≡ true }
     ensures { IfOk result (λ v. view v ≡ array_data number_data numbers.now) }
 {
     let mut values = Vec::new(alloc);
@@ -128,7 +129,7 @@ fn tasks_value(alloc: Global, sheet: &Sheet) -> Result<Value, AllocError>
 
 fn promise_value(alloc: Global, horizon: u64, times: &[u64]) -> Result<Value, AllocError>
     requires horizon { horizon < 2 ^ 63 }
-    requires times { are_in_range 1000 times.now ≡ true }
+    requires times { are_in_range most_parts times.now ≡ true }
     ensures { IfOk result (λ v. view v ≡ promise_data horizon times.now) }
 {
     let mut table = Table::new(alloc);

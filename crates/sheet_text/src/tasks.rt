@@ -1,6 +1,7 @@
 //! The tasks of a document.
 ghost use Rattle.std.specs.Prelude.{◌≡◌, ◌≤◌, ◌<◌, ◌∷◌, ◌++◌, [], ℕ, true, false, map, length, string_bytes, bytes_eq, codes, Ok, IfOk, slice_index_or};
 ghost use Rattle.std.specs.List.{list_any};
+ghost use Rattle.lists.specs.Limits.{greatest_number, most_tasks};
 ghost use Rattle.toml.specs.Data.{string, get};
 ghost use Rattle.toml.specs.View.{view, items_view};
 ghost use Rattle.curve.specs.Validity.{IsCurve};
@@ -14,9 +15,10 @@ ghost use Rattle.sheet_text.specs.TaskRows.{name_rule, unsaid_priority as unsaid
 use crate::arrivals::arrivals;
 use crate::cuts::preemption;
 use crate::document::{check_keys, needed_value};
-use crate::numbers::{GREATEST, positive, whole};
+use crate::numbers::{positive, whole};
 use indexmap::IndexSet;
 use lists::Text;
+use lists::limits::GREATEST_NUMBER;
 use std::alloc::Global;
 use task_sheet::{Field, Place, PolicyKind, SheetRefusal, Task, is_name};
 use toml::Value;
@@ -87,7 +89,7 @@ fn name_of<'a>(
 /// The priority of a task that says none.
 fn unsaid_priority(policy: PolicyKind, place: Place) -> Result<u64, SheetRefusal>
     ensures gives { result ≡ unsaid_of policy place }
-    ensures within { IfOk result (λ n. n ≤ 1000000000) }
+    ensures within { IfOk result (λ n. n ≤ greatest_number) }
 {
     match policy {
         PolicyKind::Fp => Err(SheetRefusal::Missing {
@@ -99,15 +101,15 @@ fn unsaid_priority(policy: PolicyKind, place: Place) -> Result<u64, SheetRefusal
 }
 
 fn said_priority(place: Place, value: &Value) -> Result<u64, SheetRefusal>
-    ensures gives { result ≡ whole_rule place Field.Priority 0 1000000000 (view value.now) }
-    ensures within { IfOk result (λ n. n ≤ 1000000000) }
+    ensures gives { result ≡ whole_rule place Field.Priority 0 greatest_number (view value.now) }
+    ensures within { IfOk result (λ n. n ≤ greatest_number) }
 {
-    whole(value, place, Field::Priority, 0, GREATEST)
+    whole(value, place, Field::Priority, 0, GREATEST_NUMBER)
 }
 
 fn priority_of(policy: PolicyKind, place: Place, task: &Value) -> Result<u64, SheetRefusal>
     ensures gives { result ≡ priority_rule policy place (get (codes "priority") (view task.now)) }
-    ensures within { IfOk result (λ n. n ≤ 1000000000) }
+    ensures within { IfOk result (λ n. n ≤ greatest_number) }
 {
     match task.get("priority") {
         Some(priority) => said_priority(place, priority),
@@ -163,7 +165,7 @@ pub fn tasks_of(
     policy: PolicyKind,
     items: &[Value],
 ) -> Result<Vec<Task>, SheetRefusal>
-    requires { length items.now ≤ 256 }
+    requires { length items.now ≤ most_tasks }
     ensures gives { ReadsAs (λ v. v.items) result (tasks_after policy [] (items_view items.now)) }
     ensures rules { IfOk result (λ v. tasks_rule 0 [] v.items ≡ Ok tt) }
     ensures curves { IfOk result (λ v. (i : ℕ) → i < length v.items →

@@ -2,6 +2,7 @@
 use Rattle.std.specs.Prelude.{◌≡◌, ◌≢◌, ℕ, ◌+◌, ◌<◌, ◌≤◌, List, Bool, true, false, length, Option, Some, None, slice_index_or}
 use Rattle.std.specs.BTreeMap.{BTreeMap, get, IsLowerBound}
 use Rattle.std.specs.Global.{Vec}
+use Rattle.lists.specs.Limits.{greatest_number, most_jobs, most_segments}
 use Rattle.lists.specs.Searches.{OnlyFails}
 use Rattle.task_sheet.specs.SheetParts.{SheetParts}
 use Rattle.task_sheet.specs.Sheets.{task_at}
@@ -71,15 +72,15 @@ pub record IsKnown (m : CutMeaning) (sheet : SheetParts) (t : ℕ) (j : Job) : T
   pub task : j.task < length sheet.tasks
   pub arrived : j.arrival ≤ t
   pub prompt : j.release ≡ j.arrival
-  pub cost : j.cost ≤ 1000000000
+  pub cost : j.cost ≤ greatest_number
   pub fits : m.fits (task_at sheet j.task) j ≡ true
   pub floats : FloatsBy (task_at sheet j.task).cut j
 
 -- the jobs are within the limits
 pub record IsWithin (jobs : List Job) : Type 0 where
   pub none : refused_by jobs ≡ None
-  pub few_jobs : length jobs ≤ 20000
-  pub few_segments : segments_of jobs ≤ 1000000
+  pub few_jobs : length jobs ≤ most_jobs
+  pub few_segments : segments_of jobs ≤ most_segments
 
 -- what the simulation keeps of its jobs, before tick t
 pub record IsKeptAt (p : PolicyMeaning) (m : CutMeaning) (sheet : SheetParts) (t : ℕ) (run : Run) (left : List ℕ) (queue : BTreeMap Rank ℕ) (inside : Option ℕ) : Type 0 where
@@ -129,8 +130,8 @@ pub record IsNew (m : CutMeaning) (sheet : SheetParts) (jobs : List Job) (j : Jo
   pub known : IsKnown m sheet j.arrival j
   pub positive : 1 ≤ j.cost
   pub cut : m.cuttable (task_at sheet j.task) j 0 ≡ true
-  pub few_jobs : length jobs < 20000
-  pub few_segments : segments_of jobs + length j.segs ≤ 1000000
+  pub few_jobs : length jobs < most_jobs
+  pub few_segments : segments_of jobs + length j.segs ≤ most_segments
 
 -- all but what the simulation keeps of the jobs that are not done
 pub record KeepsRest (before after : Simulation) : Type 0 where

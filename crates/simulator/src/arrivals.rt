@@ -1,5 +1,6 @@
 //! The jobs that arrive at a tick.
 ghost use Rattle.std.specs.Prelude.{◌≡◌, ◌≤◌, ◌<◌, ◌+◌, length, OnOk, IfErr};
+ghost use Rattle.lists.specs.Limits.{most_ticks};
 ghost use Rattle.task_sheet.specs.Sheets.{task_at};
 ghost use Rattle.preemption.specs.CutLaws.{Serves};
 ghost use Rattle.simulated_run.specs.SimulatedRun.{with_job, add_job as add_job_by, add_jobs as add_jobs_by, arrive_of as arrive_of_by, moment_after};
@@ -11,6 +12,7 @@ use crate::refusal::SimRefusal;
 use crate::simulation::{Simulation, rank_of};
 use crate::words::draw_count;
 use lists::Items;
+use lists::limits::{MOST_JOBS, MOST_SEGMENTS};
 use policy::Policy;
 use preemption::{Preemption, Tabled};
 use simulated_run::Mode;
@@ -18,19 +20,13 @@ use std::alloc::{AllocError, Global};
 use task_sheet::{Job, Sheet};
 use windows::allowance;
 
-/// The most jobs of a run.
-const MOST_JOBS: usize = 20_000;
-
-/// The most segments of a run's jobs.
-const MOST_SEGMENTS: usize = 1_000_000;
-
 /// Takes up a job that has just arrived.
 fn keep_job<P: Policy, M: Preemption>(
     sheet: &Sheet,
     simulation: &mut Simulation,
     job: Job,
 ) -> Result<(), AllocError>
-    requires time { job.arrival ≤ 100000 }
+    requires time { job.arrival ≤ most_ticks }
     requires new { IsNew M.cuts sheet.now simulation.old.jobs.items job }
     requires kept { IsKept P.meaning M.cuts sheet.now job.arrival simulation.old }
     ensures run { OnOk result (run_of simulation.new ≡ with_job (run_of simulation.old) job) }
@@ -58,7 +54,7 @@ fn add_job<P: Policy, M: Tabled>(
     t: u64,
 ) -> Result<(), SimRefusal>
     requires task { o < length sheet.now.tasks }
-    requires time { t ≤ 100000 }
+    requires time { t ≤ most_ticks }
     requires served { Serves M.cuts sheet.now }
     requires kept { IsKept P.meaning M.cuts sheet.now t simulation.old }
     ensures moment { OnOk result (moment_of simulation.new ≡
@@ -102,7 +98,7 @@ fn add_jobs<P: Policy, M: Tabled>(
     n: u64,
 ) -> Result<(), SimRefusal>
     requires task { o < length sheet.now.tasks }
-    requires time { t ≤ 100000 }
+    requires time { t ≤ most_ticks }
     requires served { Serves M.cuts sheet.now }
     requires kept { IsKept P.meaning M.cuts sheet.now t simulation.old }
     ensures moment { OnOk result (moment_of simulation.new ≡
@@ -127,7 +123,7 @@ fn arrive_of<P: Policy, M: Tabled>(
     t: u64,
 ) -> Result<(), SimRefusal>
     requires task { o < length sheet.now.tasks }
-    requires time { t ≤ 100000 }
+    requires time { t ≤ most_ticks }
     requires served { Serves M.cuts sheet.now }
     requires kept { IsKept P.meaning M.cuts sheet.now t simulation.old }
     requires stage { moment_of simulation.old ≡ moment_with (world_by P.meaning M.cuts sheet.now mode) t o }
@@ -151,7 +147,7 @@ pub fn arrive<P: Policy, M: Tabled>(
     simulation: &mut Simulation,
     t: u64,
 ) -> Result<(), SimRefusal>
-    requires time { t ≤ 100000 }
+    requires time { t ≤ most_ticks }
     requires served { Serves M.cuts sheet.now }
     requires kept { IsKept P.meaning M.cuts sheet.now t simulation.old }
     requires stage { moment_of simulation.old ≡ moment_after (world_by P.meaning M.cuts sheet.now mode) t }

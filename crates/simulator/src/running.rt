@@ -1,6 +1,7 @@
 //! The simulated run.
 ghost use Rattle.std.specs.Prelude.{◌≡◌, ◌≤◌, ◌<◌, ℕ, [], suc, length, slice_index_or, IfOk, OnOk, IfErr};
 ghost use Rattle.std.specs.Global.{Vec as GlobalVec};
+ghost use Rattle.lists.specs.Limits.{most_ticks};
 ghost use Rattle.task_sheet.specs.Sheets.{IsValidSheet};
 ghost use Rattle.preemption.specs.CutLaws.{Serves};
 ghost use Rattle.supply.specs.Promises.{sbf_of};
@@ -84,7 +85,7 @@ fn run_tick<P: Policy, M: Tabled>(
     simulation: &mut Simulation,
     t: u64,
 ) -> Result<(), SimRefusal>
-    requires time { t ≤ 100000 }
+    requires time { t ≤ most_ticks }
     requires served { Serves M.cuts sheet.now }
     requires kept { IsKept P.meaning M.cuts sheet.now t simulation.old }
     requires stage { moment_of simulation.old ≡ moment_after (world_by P.meaning M.cuts sheet.now mode) t }
@@ -112,7 +113,7 @@ pub fn simulate<P: Policy, M: Tabled, S: Supply>(
     mode: Mode,
     n: u64,
 ) -> Result<Run, SimRefusal>
-    requires ticks { n ≤ 100000 }
+    requires ticks { n ≤ most_ticks }
     requires served { Serves M.cuts sheet.now }
     requires stated { S.sbf supply.now ≡ sbf_of sheet.now.supply }
     ensures exact { IsSimulation (world_of P.meaning M.cuts (S.sbf supply.now) sheet.now mode) n result }

@@ -1,5 +1,6 @@
 //! The state of a simulation.
 ghost use Rattle.std.specs.Prelude.{◌≡◌, ◌≤◌, ◌<◌, length};
+ghost use Rattle.lists.specs.Limits.{greatest_number};
 ghost use Rattle.simulator.specs.Ranks.{rank_at};
 
 use policy::Policy;
@@ -42,7 +43,7 @@ pub struct Simulation {
 /// The rank of a job with this number.
 pub fn rank_of<P: Policy>(sheet: &Sheet, job: &Job, number: u32) -> Rank
     requires task { job.now.task < length sheet.now.tasks }
-    requires arrival { job.now.arrival ≤ 1000000000 }
+    requires arrival { job.now.arrival ≤ greatest_number }
     ensures { result ≡ rank_at P.meaning sheet.now job.now number }
 {
     let key = P::key(sheet, job);

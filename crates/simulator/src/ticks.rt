@@ -1,6 +1,7 @@
 //! What the processor does at a tick.
 ghost use Rattle.std.specs.Prelude.{◌≡◌, ◌≤◌, ◌<◌, ℕ, true, None, Some, suc, cond, length, OnOk, MatchOption};
 ghost use Rattle.std.specs.BTreeMap.{Updates};
+ghost use Rattle.lists.specs.Limits.{most_ticks};
 ghost use Rattle.task_sheet.specs.Sheets.{IsTask};
 ghost use Rattle.preemption.specs.CutLaws.{Serves};
 ghost use Rattle.run_model.specs.declared.run.Tick.TheVariants.{Off, Runs as RunsJob};
@@ -94,7 +95,7 @@ fn run_job<P: Policy, M: Tabled>(sheet: &Sheet, simulation: &mut Simulation, k: 
     requires listed { k < length simulation.old.jobs.items }
     requires waits { 0 < left_at simulation.old.left.items k }
     requires chosen { CanRun simulation.old.inside k }
-    requires time { length simulation.old.ticks.items ≤ 100000 }
+    requires time { length simulation.old.ticks.items ≤ most_ticks }
     requires served { Serves M.cuts sheet.now }
     requires kept { IsKept P.meaning M.cuts sheet.now (length simulation.old.ticks.items) simulation.old }
     ensures rest { KeepsRest simulation.old simulation.new }
@@ -116,7 +117,7 @@ fn run_job<P: Policy, M: Tabled>(sheet: &Sheet, simulation: &mut Simulation, k: 
 /// What a tick does to its job.
 fn advance<P: Policy, M: Tabled>(sheet: &Sheet, simulation: &mut Simulation, tick: Tick)
     requires tick { MayBe simulation.old tick }
-    requires time { length simulation.old.ticks.items ≤ 100000 }
+    requires time { length simulation.old.ticks.items ≤ most_ticks }
     requires served { Serves M.cuts sheet.now }
     requires kept { IsKept P.meaning M.cuts sheet.now (length simulation.old.ticks.items) simulation.old }
     ensures rest { KeepsRest simulation.old simulation.new }
@@ -146,7 +147,7 @@ pub fn add_tick<P: Policy, M: Tabled>(
     simulation: &mut Simulation,
     t: u64,
 ) -> Result<(), AllocError>
-    requires time { t ≤ 100000 }
+    requires time { t ≤ most_ticks }
     requires served { Serves M.cuts sheet.now }
     requires kept { IsKept P.meaning M.cuts sheet.now t simulation.old }
     requires stage { moment_of simulation.old ≡

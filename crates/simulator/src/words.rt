@@ -1,5 +1,6 @@
 //! What the words of the generator decide.
 ghost use Rattle.std.specs.Prelude.{◌≡◌, ◌≤◌, ◌<◌, ◌^◌};
+ghost use Rattle.lists.specs.Limits.{greatest_number};
 ghost use Rattle.task_sheet.specs.declared.tasks.Cut.TheVariants.{Full};
 ghost use Rattle.simulated_run.specs.Words.{word, next, after};
 ghost use Rattle.simulated_run.specs.Jobs.{cost_by, words_by, drawn_cost};
@@ -21,7 +22,7 @@ fn draw(words: &mut SplitMix64) -> u64
 /// One of the costs `1, .., most`, by one word.
 pub fn draw_cost(most: u64, words: &mut SplitMix64) -> u64
     requires low { 1 ≤ most }
-    requires high { most ≤ 1000000000 }
+    requires high { most ≤ greatest_number }
     ensures cost { result ≡ drawn_cost most words.old }
     ensures state { words.new ≡ next words.old }
     ensures few { result ≤ most }
@@ -32,7 +33,7 @@ pub fn draw_cost(most: u64, words: &mut SplitMix64) -> u64
 /// The cost of a job whose task has no fixed segments, where its task allows `most`.
 pub fn cost_of(mode: Mode, most: u64, words: &mut SplitMix64) -> u64
     requires low { 1 ≤ most }
-    requires high { most ≤ 1000000000 }
+    requires high { most ≤ greatest_number }
     ensures cost { result ≡ cost_by mode Full most words.old }
     ensures state { words.new ≡ after (words_by mode Full) words.old }
 {

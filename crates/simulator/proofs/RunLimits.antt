@@ -53,7 +53,7 @@ known_job : (m : CutMeaning) (sheet : SheetParts) (t : ℕ) (j : Job) → IsVali
 known_job m sheet t j valid tabled h known = record {
   task = omega (arith, known.task, valid.few);
   arrival = omega (arith, known.arrived);
-  released = known.prompt;
+  release = omega (arith, known.prompt, known.arrived);
   cost = known.cost;
   segs =
       cut_segments (task_at sheet j.task).cut j

@@ -114,7 +114,7 @@ impl Draft {
         let Some((jobs, ticks)) = read_counts(line) else {
             return false;
         };
-        self.stage = before_jobs(version, jobs, MOST_SEGMENTS, ticks);
+        self.stage = before_jobs(version, jobs, MOST_SEGMENTS as u64, ticks);
         true
     }
 

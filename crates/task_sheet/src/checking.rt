@@ -12,7 +12,7 @@ use crate::tasks::{Cut, SupplySpec, Task};
 
 const GREATEST: u64 = 1_000_000_000;
 /// The greatest jitter of a task.
-pub const MOST_JITTER: u64 = 0;
+pub const MOST_JITTER: u64 = GREATEST;
 /// How far from 0 a priority point lies at most.
 pub const MOST_POINT: i64 = 0;
 

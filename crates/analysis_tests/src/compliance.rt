@@ -2,7 +2,7 @@
 ghost use Rattle.std.specs.Prelude.{◌≡◌, ◌<◌, ◌^◌, length, true};
 ghost use Rattle.schedule_laws.specs.Tests.{AreOf, AreEarly};
 
-use crate::sheets::sheet_of;
+use crate::sheets::{JITTER, sheet_of};
 use lists::Items;
 use policy::Fp;
 use preemption::PerTask;
@@ -112,15 +112,19 @@ const TICKS: [Tick; 8] = [
 
 const VALID: [bool; 8] = [false, false, true, true, false, false, true, true];
 
-/// The task, the arrival and the release of each of two jobs, and which of the two is released as its
-/// task does not allow, where no task has a jitter.
-const RELEASES: [([(u32, u64, u64); 2], [bool; 2]); 5] = [
-    ([(0, 0, 0), (0, 4, 4)], [false, false]),
-    ([(0, 1, 0), (0, 4, 4)], [true, false]),
-    ([(0, 0, 1), (0, 4, 4)], [true, false]),
+/// A sheet, the task, the arrival and the release of each of two jobs, and which of the two is released
+/// as its task does not allow.
+const RELEASES: [(&str, [(u32, u64, u64); 2], [bool; 2]); 9] = [
+    (TASKS, [(0, 0, 0), (0, 4, 4)], [false, false]),
+    (TASKS, [(0, 1, 0), (0, 4, 4)], [true, false]),
+    (TASKS, [(0, 0, 1), (0, 4, 4)], [true, false]),
     // the later job is released before the earlier one
-    ([(0, 0, 5), (0, 4, 4)], [true, true]),
-    ([(0, 0, 5), (1, 4, 4)], [true, false]),
+    (TASKS, [(0, 0, 5), (0, 4, 4)], [true, true]),
+    (TASKS, [(0, 0, 5), (1, 4, 4)], [true, false]),
+    (JITTER, [(0, 0, 3), (0, 5, 5)], [false, false]),
+    (JITTER, [(0, 0, 4), (0, 5, 5)], [true, false]),
+    (JITTER, [(0, 3, 6), (0, 5, 5)], [false, true]),
+    (JITTER, [(0, 3, 6), (0, 5, 6)], [false, false]),
 ];
 
 const OFTEN_OFF: &str = "poet-run 1\njobs 0 ticks 8\noff 2\nidle 2\noff 3\nidle 1\nend\n";
@@ -247,8 +251,8 @@ fn broken_releases(sheet: &Sheet, run: &Run) -> Option<[bool; 2]> {
 
 #[test]
 fn releases(rt: HostRuntime) -> Result<(), Fail> {
-    let sheet = sheet_of(rt.alloc(), TASKS)?;
-    for (jobs, wanted) in RELEASES {
+    for (sheet, jobs, wanted) in RELEASES {
+        let sheet = sheet_of(rt.alloc(), sheet)?;
         let run = released_run(rt.alloc(), jobs)?;
         assert_eq!(rt; broken_releases(&sheet, &run), Some(wanted), "{jobs:?}");
     }

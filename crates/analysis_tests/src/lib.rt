@@ -4,6 +4,8 @@
 #[cfg(test)]
 mod best_certs;
 #[cfg(test)]
+mod bounds;
+#[cfg(test)]
 mod compliance;
 #[cfg(test)]
 mod first_failures;

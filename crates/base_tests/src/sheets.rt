@@ -119,15 +119,15 @@ fn each_task_rule(rt: HostRuntime) -> Result<(), Fail> {
     Ok(())
 }
 
-/// Neither a jitter nor a priority point is allowed.
+/// A jitter may be up to 10^9, and no priority point is allowed.
 #[test]
-fn neither_jitter_nor_point(rt: HostRuntime) -> Result<(), Fail> {
-    let place = Place::Task(0);
-    for (jitter, point, field) in [
-        (1, 0, Field::Jitter),
-        (0, 1, Field::Point),
-        (0, -1, Field::Point),
-        (1, 1, Field::Jitter),
+fn jitters_and_points(rt: HostRuntime) -> Result<(), Fail> {
+    for (jitter, point, wrong) in [
+        (1_000_000_000, 0, None),
+        (1_000_000_001, 0, Some(Field::Jitter)),
+        (0, 1, Some(Field::Point)),
+        (0, -1, Some(Field::Point)),
+        (1_000_000_001, 1, Some(Field::Jitter)),
     ] {
         let draft = Draft {
             jitter,
@@ -135,7 +135,9 @@ fn neither_jitter_nor_point(rt: HostRuntime) -> Result<(), Fail> {
             ..PLAIN
         };
         let found = refusal_of(rt.alloc(), SupplySpec::Unit, &[draft])?;
-        assert_eq!(rt; found, Some(SheetRefusal::Range { place, field }));
+        let place = Place::Task(0);
+        let wanted = wrong.map(|field| SheetRefusal::Range { place, field });
+        assert_eq!(rt; found, wanted, "{jitter} and {point}");
     }
     Ok(())
 }

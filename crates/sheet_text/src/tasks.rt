@@ -6,11 +6,11 @@ ghost use Rattle.toml.specs.Data.{string, get};
 ghost use Rattle.toml.specs.View.{view, items_view};
 ghost use Rattle.curve.specs.Validity.{IsCurve};
 ghost use Rattle.lists.specs.Ranges.{is_between};
-ghost use Rattle.task_sheet.specs.Rules.{is_name as is_name_of, task_rule, tasks_rule};
+ghost use Rattle.task_sheet.specs.Rules.{is_name as is_name_of, most_jitter, task_rule, tasks_rule};
 ghost use Rattle.task_sheet.specs.Sheets.{no_task};
 ghost use Rattle.sheet_text.specs.Readings.{ReadsAs};
 ghost use Rattle.sheet_text.specs.Documents.{whole_rule};
-ghost use Rattle.sheet_text.specs.TaskRows.{name_rule, unsaid_priority as unsaid_of, priority_rule, task_of as task_of_value, tasks_after};
+ghost use Rattle.sheet_text.specs.TaskRows.{name_rule, unsaid_priority as unsaid_of, priority_rule, jitter_rule, task_of as task_of_value, tasks_after};
 
 use crate::arrivals::arrivals;
 use crate::cuts::preemption;
@@ -20,14 +20,15 @@ use indexmap::IndexSet;
 use lists::Text;
 use lists::limits::GREATEST_NUMBER;
 use std::alloc::Global;
-use task_sheet::{Field, Place, PolicyKind, SheetRefusal, Task, is_name};
+use task_sheet::{Field, MOST_JITTER, Place, PolicyKind, SheetRefusal, Task, is_name};
 use toml::Value;
 
-const TASK_KEYS: [&str; 7] = [
+const TASK_KEYS: [&str; 8] = [
     "name",
     "cost",
     "deadline",
     "priority",
+    "jitter",
     "period",
     "curve",
     "preemption",
@@ -117,6 +118,25 @@ fn priority_of(policy: PolicyKind, place: Place, task: &Value) -> Result<u64, Sh
     }
 }
 
+#[tactic(auto, unfolding(task_sheet::specs::Rules::most_jitter))]
+fn said_jitter(place: Place, value: &Value) -> Result<u64, SheetRefusal>
+    ensures gives { result ≡ whole_rule place Field.Jitter 0 most_jitter (view value.now) }
+    ensures within { IfOk result (λ n. n ≤ most_jitter) }
+{
+    whole(value, place, Field::Jitter, 0, MOST_JITTER)
+}
+
+/// The jitter of a task, which is 0 where it says none.
+fn jitter_of(place: Place, task: &Value) -> Result<u64, SheetRefusal>
+    ensures gives { result ≡ jitter_rule place (get (codes "jitter") (view task.now)) }
+    ensures within { IfOk result (λ n. n ≤ most_jitter) }
+{
+    match task.get("jitter") {
+        Some(jitter) => said_jitter(place, jitter),
+        None => Ok(0),
+    }
+}
+
 /// Task `n`, after tasks of these names.
 #[tactic(auto, unfolding(crate::specs::TaskRows::task_of))]
 fn task_of(
@@ -144,6 +164,7 @@ fn task_of(
     let cost = positive(value, "cost", place, Field::Cost)?;
     let deadline = positive(value, "deadline", place, Field::Deadline)?;
     let priority = priority_of(policy, place, value)?;
+    let jitter = jitter_of(place, value)?;
     let curve = arrivals(alloc, n, value)?;
     let cut = preemption(alloc, n, cost, value)?;
     Ok(Task {
@@ -151,7 +172,7 @@ fn task_of(
         cost,
         deadline,
         priority,
-        jitter: 0,
+        jitter,
         point: 0,
         curve,
         cut,

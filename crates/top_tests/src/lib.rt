@@ -17,6 +17,8 @@ mod files;
 #[cfg(test)]
 mod grammar;
 #[cfg(test)]
+mod jitters;
+#[cfg(test)]
 mod large;
 #[cfg(test)]
 mod whole;

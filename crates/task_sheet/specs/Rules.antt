@@ -15,10 +15,6 @@ use Rattle.task_sheet.specs.declared.refusal.SheetRefusal.TheVariants.{Range, Or
 use Rattle.task_sheet.specs.SheetParts.{SheetParts}
 use Rattle.task_sheet.specs.Refusing.{◌>>=◌, holds}
 
--- the greatest number of a sheet
-abbrev pub greatest_number : ℕ
-greatest_number = 1000000000
-
 -- the greatest jitter of a task
 unfoldable pub most_jitter : ℕ
 most_jitter = greatest_number

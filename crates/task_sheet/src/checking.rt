@@ -13,7 +13,7 @@ use crate::tasks::{Cut, SupplySpec, Task};
 use lists::limits::{GREATEST_NUMBER, MOST_PARTS};
 
 /// The greatest jitter of a task.
-pub const MOST_JITTER: u64 = GREATEST;
+pub const MOST_JITTER: u64 = GREATEST_NUMBER;
 /// How far from 0 a priority point lies at most.
 pub const MOST_POINT: i64 = 0;
 

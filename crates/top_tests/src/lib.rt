@@ -11,12 +11,6 @@ mod checks;
 #[cfg(test)]
 mod commands;
 #[cfg(test)]
-mod failing;
-#[cfg(test)]
-mod files;
-#[cfg(test)]
 mod grammar;
-#[cfg(test)]
-mod large;
 #[cfg(test)]
 mod whole;

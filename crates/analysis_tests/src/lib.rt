@@ -1,12 +1,10 @@
-//! Tests of the analysis, over small sheets, certificates and runs that were worked out by hand.
+//! Tests of the analysis, over small sheets and certificates that were worked out by hand.
 #![tactic(auto)]
 
 #[cfg(test)]
 mod best_certs;
 #[cfg(test)]
 mod bounds;
-#[cfg(test)]
-mod compliance;
 #[cfg(test)]
 mod first_failures;
 #[cfg(test)]

@@ -1,7 +1,7 @@
 //! Rows of `simulate`, `audit`, `report` and `exercise`.
 use super::cases::{Case, assert_cases};
-use super::files::*;
 use std::test::Fail;
+use top_cases::files::*;
 
 const SIMULATED_RUNS: [Case; 9] = [
     Case {

@@ -11,14 +11,8 @@ mod checks;
 #[cfg(test)]
 mod commands;
 #[cfg(test)]
-mod failing;
-#[cfg(test)]
-mod files;
-#[cfg(test)]
 mod grammar;
 #[cfg(test)]
 mod jitters;
-#[cfg(test)]
-mod large;
 #[cfg(test)]
 mod whole;

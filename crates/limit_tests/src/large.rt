@@ -1,11 +1,12 @@
 //! Sheets at their limits, and a sheet that is printed and read again.
-use super::cases::{assert_said, shelf_of, sink_of, words_of};
-use super::files::{CROWD, EIGHT_TASKS};
+use super::said::assert_said;
 use sheet_text::{print_sheet, read_sheet};
 use std::alloc::{AllocError, Global};
 use std::fmt::Write;
 use std::process::Abort;
 use std::test::Fail;
+use top_cases::files::{CROWD, EIGHT_TASKS};
+use top_cases::{shelf_of, sink_of, words_of};
 
 /// A sheet of so many equal tasks, under fp.
 fn equal_tasks(alloc: Global, count: u32) -> Result<String, AllocError> {

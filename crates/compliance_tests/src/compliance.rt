@@ -2,7 +2,6 @@
 ghost use Rattle.std.specs.Prelude.{◌≡◌, ◌<◌, ◌^◌, length, true};
 ghost use Rattle.schedule_laws.specs.Tests.{AreOf, AreEarly};
 
-use crate::sheets::{JITTER, sheet_of};
 use lists::Items;
 use policy::Fp;
 use preemption::PerTask;
@@ -11,6 +10,7 @@ use run_text::read_run;
 use schedule_laws::{
     crowded, fits, idle_broken, priority_broken, release_broken, segment_broken, short_at, valid_at,
 };
+use sheet_text::read_sheet;
 use std::alloc::{AllocError, Global};
 use std::test::Fail;
 use task_sheet::{Job, Sheet};
@@ -22,6 +22,11 @@ task = [
     { name = 'a', cost = 1, deadline = 4, priority = 2, period = 4 },
     { name = 'b', cost = 2, deadline = 6, priority = 1, period = 6, preemption = 'never' },
 ]";
+
+/// A job of the one task is released up to 3 ticks after its arrival.
+const JITTER: &str = "
+policy = 'fp'
+task = [{ name = 'a', cost = 2, deadline = 5, priority = 1, jitter = 3, period = 5 }]";
 
 const PROMISED: &str = "
 policy = 'fp'
@@ -171,6 +176,10 @@ fn found_at(sheet: &Sheet, run: &Run, k: u32, t: u64) -> Option<Found> {
         segment_broken::<PerTask>(sheet, run, t),
         priority_broken::<Fp, PerTask>(sheet, run, t),
     ))
+}
+
+fn sheet_of(alloc: Global, text: &str) -> Result<Sheet, Fail> {
+    Ok(read_sheet(alloc, text.as_bytes())?)
 }
 
 fn run_of(alloc: Global, text: &str) -> Result<Run, Fail> {

@@ -1,6 +1,6 @@
 //! Each refusal of a sheet at its first place, beside sheets that pass.
-use crate::makers::{Draft, PLAIN, Pieces, make_tasks};
 use lists::Items;
+use small_tasks::{Draft, PLAIN, Pieces, make_tasks};
 use std::alloc::Global;
 use std::test::Fail;
 use task_sheet::{Field, Place, PolicyKind, Sheet, SheetRefusal, SupplySpec};

@@ -1,9 +1,10 @@
-//! Small tasks and jobs.
+//! Small tasks, which the tests of several crates are over.
+#![tactic(auto)]
+
 use curve::Prefix;
 use lists::{Items, Text};
 use std::alloc::{AllocError, Global};
-use std::test::Fail;
-use task_sheet::{Cut, Job, Task};
+use task_sheet::{Cut, Task};
 
 /// Where jobs of a task may be preempted.
 #[derive(Clone, Copy)]
@@ -46,7 +47,7 @@ fn make_cut(alloc: Global, pieces: Pieces<'_>) -> Result<Cut, AllocError> {
 }
 
 /// The task of a draft, of which a job may arrive every 5 ticks.
-pub fn make_task(alloc: Global, draft: &Draft<'_>) -> Result<Task, Fail> {
+pub fn make_task(alloc: Global, draft: &Draft<'_>) -> Result<Task, AllocError> {
     Ok(Task {
         name: Text::new(String::from_str(alloc, draft.name)?),
         cost: draft.cost,
@@ -59,7 +60,7 @@ pub fn make_task(alloc: Global, draft: &Draft<'_>) -> Result<Task, Fail> {
     })
 }
 
-pub fn make_tasks(alloc: Global, drafts: &[Draft<'_>]) -> Result<Vec<Task>, Fail> {
+pub fn make_tasks(alloc: Global, drafts: &[Draft<'_>]) -> Result<Vec<Task>, AllocError> {
     let mut tasks = Vec::new(alloc);
     for draft in drafts {
         tasks.push(make_task(alloc, draft)?)?;

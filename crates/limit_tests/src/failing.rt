@@ -1,10 +1,11 @@
 //! Failing files and sinks, and files past their limits.
-use super::cases::{assert_said, files_of, shelf_of, sink_of, words_of};
-use super::files::{ONE_TASK, ONE_TASK_CERT};
+use super::said::assert_said;
 use poet_io::{MemShelf, MemSink};
 use std::alloc::{AllocError, Global};
 use std::process::Abort;
 use std::test::Fail;
+use top_cases::files::{ONE_TASK, ONE_TASK_CERT};
+use top_cases::{files_of, shelf_of, sink_of, words_of};
 
 /// Words over the first worked example, a fault, and what the program says then.
 struct Failing {

@@ -1,6 +1,6 @@
 use Rattle.std.proofs.Common.{◌<◌, ◌≤◌, ℕ, length}
 use Rattle.run_model.specs.Runs.{job_at}
-use Rattle.analysis_tests.proofs.compliance.all_fit.Given as goal
+use Rattle.compliance_tests.proofs.compliance.all_fit.Given as goal
 
 abbrev pub invariant-loop-k : goal.invariant-loop-k
 invariant-loop-k l = record {

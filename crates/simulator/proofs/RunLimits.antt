@@ -49,11 +49,11 @@ tick_of n Idle h = tt
 tick_of n (Runs k) h = h k refl
 
 known_job : (m : CutMeaning) (sheet : SheetParts) (t : ℕ) (j : Job) → IsValidSheet sheet →
-    ((o : ℕ) → o < length sheet.tasks → IsTabledCut m (task_at sheet o)) → t ≤ 100000 → IsKnown m sheet t j → IsJob j
-known_job m sheet t j valid tabled h known = record {
+    ((o : ℕ) → o < length sheet.tasks → IsTabledCut m (task_at sheet o)) → t ≤ 100000 → IsKnown m sheet t j → j.release ≡ j.arrival → IsJob j
+known_job m sheet t j valid tabled h known released = record {
   task = omega (arith, known.task, valid.few);
   arrival = omega (arith, known.arrived);
-  released = known.prompt;
+  released = released;
   cost = known.cost;
   segs =
       cut_segments (task_at sheet j.task).cut j

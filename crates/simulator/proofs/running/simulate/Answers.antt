@@ -5,7 +5,7 @@ use Rattle.run_model.specs.declared.run.Run.{Run}
 use Rattle.run_text.specs.Text.{IsWithinLimits}
 use Rattle.schedule_laws.specs.Compliance.{IsCompliant}
 use Rattle.simulated_run.specs.declared.mode.Mode.{Mode}
-use Rattle.simulated_run.specs.Laws.{IsDense, IsPrompt}
+use Rattle.simulated_run.specs.Laws.{IsDense}
 use Rattle.simulated_run.specs.SimulatedRun.{World, world_of, moment_after, simulated_run}
 use Rattle.simulator.specs.Simulations.{IsSimulation, refused_by}
 use Rattle.simulator.specs.SimulationState.{IsKept, world_by, moment_of, run_of}
@@ -48,13 +48,8 @@ returns g c =
       complies =
           subst (IsCompliant w.policy w.cuts sbf w.sheet) (sym is)
           (c.simulation_complies.ensures c.args.supply.now c.known.ensures w.sheet valid c.requires.served w.mode c.args.n);
-      prompt = subst IsPrompt (sym here) (λ k b. (kept.known k b).prompt);
       full =
           λ dense. subst (IsDense sheet n) (sym is)
           (subst (λ (mode : Mode). IsDense sheet n (simulated_run (world_of w.policy w.cuts sbf sheet mode) n)) (sym dense)
           (c.dense_is_full.ensures c.args.supply.now c.known.ensures sheet valid n));
-      within =
-          subst IsWithinLimits (sym here)
-          (kept_within w.policy w.cuts w.sheet c.loop-t.t (run_of m) m.left.items m.queue m.inside kept valid
-          (λ o b. g.met.M.Tabled.tabled (task_at w.sheet o) (c.requires.served o b)) (omega arith));
     }

@@ -64,17 +64,17 @@ returns-clause-kept g c =
     let rest = c.advance.ensures.rest in
     let new = c.advance.new.simulation in
     let y = c.pick-tick.result in
-    let after : IsKeptAt g.P.Policy.meaning g.M.Preemption.cuts c.args.sheet.now (suc c.args.t) (with_tick (run_of m) y) new.left.items new.queue new.inside =
+    let after : IsKeptAt g.P.Policy.meaning g.M.Preemption.cuts c.args.sheet.now (suc c.args.t) (suc c.args.t) (suc c.args.t) (with_tick (run_of m) y) new.left.items new.queue new.coming new.inside =
     subst
-    (λ (t : ℕ). IsKeptAt g.P.Policy.meaning g.M.Preemption.cuts c.args.sheet.now (suc t) (with_tick (run_of m) y) new.left.items new.queue new.inside)
+    (λ (t : ℕ). IsKeptAt g.P.Policy.meaning g.M.Preemption.cuts c.args.sheet.now (suc t) (suc t) (suc t) (with_tick (run_of m) y) new.left.items new.queue new.coming new.inside)
     c.requires.kept.jobs.now c.advance.ensures.kept
     in
     let last = last_count m.counts new.counts c.args.t c.index.result.now rest.counts (omega (arith, c.requires.kept.counts.counted)) c.index.ensures in
     kept_then g.P.Policy.meaning g.M.Preemption.cuts c.args.sheet.now c.args.t (run_of m) _ m.left.items new.left.items m.queue
-    new.queue m.inside new.inside m.segments new.segments m.arrivals.items new.arrivals.items m.counts.items c.push.new.self.items
+    new.queue m.coming new.coming m.inside new.inside m.segments new.segments m.arrivals.items new.arrivals.items m.releases.items new.releases.items m.counts.items c.push.new.self.items
     y (c.index.result.now + c.count_on.result) c.requires.kept after
     (with_tick_is (run_of m) new.jobs.items c.push-2.new.self.items y (ap (λ (v : Vec Job). v.items) rest.jobs)
     (c.in_ok-push-2.ensures.items ∙ ap (λ (v : Vec Tick). v.items ++ y ∷ []) rest.ticks))
-    rest.segments (ap (λ (v : Vec (Vec ℕ)). v.items) rest.arrivals)
+    rest.segments (ap (λ (v : Vec (Vec ℕ)). v.items) rest.arrivals) (ap (λ (v : Vec ℕ). v.items) rest.releases)
     (ap (λ (n : ℕ). n + c.count_on.result) last ∙ ap (λ (n : ℕ). get_or m.counts.items c.args.t 0 + n) c.count_on.ensures)
     (c.in_ok-push.ensures.items ∙ ap (λ (v : Vec ℕ). v.items ++ (c.index.result.now + c.count_on.result) ∷ []) rest.counts)

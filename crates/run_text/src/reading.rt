@@ -10,7 +10,8 @@ use poet_io::TextRefusal;
 use run_model::Run;
 use std::alloc::Global;
 
-/// The run whose text the bytes are.
+/// The run whose text the bytes are, in either version. In the first one each job is released at its
+/// arrival.
 ///
 /// Where they are no run's text, the refusal names the line of the first byte that is wrong or
 /// missing. No byte is kept: a line is read where it stands.

@@ -123,6 +123,7 @@ pub fn simulate<P: Policy, M: Tabled, S: Supply>(
     ensures exact { IsSimulation (world_of P.meaning M.cuts (S.sbf supply.now) sheet.now mode) n result }
     ensures complies { IfOk result (IsCompliant P.meaning M.cuts (S.sbf supply.now) sheet.now) }
     ensures full { mode ≡ Dense → IfOk result (IsDense sheet.now n) }
+    ensures within { IfOk result IsWithinLimits }
 {
     // what the clauses rest on
     supply.known();

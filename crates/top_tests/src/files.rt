@@ -60,10 +60,10 @@ pub const MANY_POINTS: &str =
 
 /// The first task's dense run of 8 ticks.
 pub const PERIODIC_RUN: &str =
-    "poet-run 1\njobs 2 ticks 8\nj 0 0 2\nj 0 5 2\nrun 0 2\nidle 3\nrun 1 2\nidle 1\nend\n";
+    "poet-run 2\njobs 2 ticks 8\nj 0 0 0 2\nj 0 5 5 2\nrun 0 2\nidle 3\nrun 1 2\nidle 1\nend\n";
 
 pub const DENSE_RUN: &str =
-    "poet-run 1\njobs 5 ticks 12\nj 0 0 1\nj 1 0 2\nj 0 4 1\nj 1 6 2\nj 0 8 1\nrun 0 1\nrun 1 2\nidle 1\nrun 2 1\nidle 1\nrun 3 2\nrun 4 1\nidle 3\nend\n";
+    "poet-run 2\njobs 5 ticks 12\nj 0 0 0 1\nj 1 0 0 2\nj 0 4 4 1\nj 1 6 6 2\nj 0 8 8 1\nrun 0 1\nrun 1 2\nidle 1\nrun 2 1\nidle 1\nrun 3 2\nrun 4 1\nidle 3\nend\n";
 
 pub const FIXED_SEGMENTS: &str =
     "policy = \"fp\"\n\n[[task]]\nname = \"a\"\ncost = 5\ndeadline = 10\npriority = 1\nperiod = 10\npreemption = { fixed = [2, 3] }\n";

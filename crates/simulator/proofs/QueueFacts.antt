@@ -5,7 +5,7 @@ use Rattle.std.specs.declared.cmp.Ordering.{Ordering}
 use Rattle.std.specs.declared.cmp.Ordering.TheVariants.{Less, Equal, Greater}
 use Rattle.std.specs.Ordering.{is_eq, is_gt, is_lt, nat_cmp, int_cmp, ordering_then, ordering_reverse}
 use Rattle.std.specs.BTreeMap.{BTreeMap, get, Updates, IsLowerBound, is_at}
-use Rattle.std.specs.BTreeSet.{BTreeSet, contains, Updates as AddsDue}
+use Rattle.std.specs.BTreeSet.{BTreeSet, contains, Updates as UpdatesDue, IsLowerBound as FirstKey}
 use Rattle.std.specs.Map.{lookup}
 use Rattle.std.specs.Option.{is_some}
 use Rattle.std.proofs.Math.ListN.{set}
@@ -93,9 +93,16 @@ due_apart : (d e : Due) → d.number ≢ e.number → is_at (due_cmp d) e ≡ fa
 due_apart d e ne = elim (cases_Bool (is_at (due_cmp d) e)) [ inr f ↦ f | inl same ↦ absurd (ne (ap (λ (x : Due). x.number) (same_due d e same))) ]
 
 -- what was not put in, or taken out, is as it was
-due_stays : (coming after : BTreeSet Due) (d e : Due) (b : Bool) → AddsDue due_cmp coming after d b → d.number ≢ e.number →
+due_stays : (coming after : BTreeSet Due) (d e : Due) (b : Bool) → UpdatesDue due_cmp coming after d b → d.number ≢ e.number →
     contains due_cmp after e ≡ contains due_cmp coming e
 due_stays coming after d e b up ne = up.2 e (due_apart d e ne)
+
+release_le : (a b : ℕ) (r : Ordering) → is_gt (ordering_then (nat_cmp a b) r) ≡ false → a ≤ b
+release_le a b r h = grind (arith, nat_tests)
+
+-- where the first job to come is released later, all are
+pub none_due : (t : ℕ) (coming : BTreeSet Due) (d : Due) → FirstKey due_cmp coming d → t < d.release → NoneIsDue t coming
+none_due t coming d least h q there = omega (arith, release_le d.release q.release _ (least q there), h)
 
 module _ (p : PolicyMeaning) (sheet : SheetParts) where
   -- other numbers, other ranks
@@ -186,7 +193,7 @@ module _ (p : PolicyMeaning) (sheet : SheetParts) where
     own = record { release = j.release; number = n }
 
     -- it is to come
-    push_coming : v ≤ j.release → AddsDue due_cmp coming coming' own true → IsQueue p sheet jobs' left' u v queue coming'
+    push_coming : v ≤ j.release → UpdatesDue due_cmp coming coming' own true → IsQueue p sheet jobs' left' u v queue coming'
     push_coming late up =
         let of_new : own ≡ due_of jobs' n = ap (λ (x : Job). (let d : Due = record { release = x.release; number = n } in d)) (sym job_new) in
         record {

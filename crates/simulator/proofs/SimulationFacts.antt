@@ -5,6 +5,7 @@ use Rattle.std.specs.BTreeMap.{BTreeMap, get}
 use Rattle.std.specs.BTreeSet.{BTreeSet, contains}
 use Rattle.std.specs.List.{list_any}
 use Rattle.std.specs.Map.{lookup}
+use Rattle.std.proofs.lemmas.List.{length-replicate, get_or-replicate}
 use Rattle.task_sheet.specs.SheetParts.{SheetParts}
 use Rattle.task_sheet.specs.declared.tasks.Job.{Job}
 use Rattle.policy.specs.PolicyMeaning.{PolicyMeaning}
@@ -40,7 +41,7 @@ empty_queue p sheet queue coming e f = record {
 
 no_releases : (n : ℕ) (releases : List ℕ) → releases ≡ replicate n 0 → HasReleases n no_run releases
 unfolding last_release
-no_releases n releases e = record { tasks = ap length e ∙ length-replicate n 0; each = λ o b. ap (λ (l : List ℕ). get_or l o 0) e ∙ get_or-replicate n 0 o b }
+no_releases n releases e = record { tasks = ap length e ∙ length-replicate n 0; each = λ o b. ap (λ (l : List ℕ). get_or l o 0) e ∙ get_or-replicate n o 0 0 b }
 
 pub kept_first : (p : PolicyMeaning) (m : CutMeaning) (sheet : SheetParts) (run : Run) (left : List ℕ) (queue : BTreeMap Rank ℕ) (coming : BTreeSet Due) (lists : List (Vec ℕ)) (releases sums : List ℕ) →
     run ≡ no_run → left ≡ [] → queue.entries ≡ [] → coming.keys ≡ [] → length lists ≡ length sheet.tasks

@@ -1,7 +1,7 @@
 -- How the simulation stands to the run so far: the code's own invariants. Nothing here is to be believed.
 use Rattle.std.specs.Prelude.{◌≡◌, ◌≢◌, ℕ, ◌+◌, ◌<◌, ◌≤◌, List, suc, ◌⊎◌, Bool, true, false, length, Option, Some, None, slice_index_or}
 use Rattle.std.specs.BTreeMap.{BTreeMap, get, Updates, IsLowerBound}
-use Rattle.std.specs.BTreeSet.{BTreeSet, contains, Updates as AddsDue}
+use Rattle.std.specs.BTreeSet.{BTreeSet, contains, Updates as UpdatesDue}
 use Rattle.std.specs.Global.{Vec}
 use Rattle.task_sheet.specs.SheetParts.{SheetParts}
 use Rattle.task_sheet.specs.Sheets.{task_at}
@@ -79,7 +79,7 @@ pub record IsTakenUp (t : ℕ) (rank : Rank) (d : Due) (queue queue' : BTreeMap 
   pub queued : d.release ≤ t → Updates rank_cmp queue queue' rank (Some d.number)
   pub kept : d.release ≤ t → coming' ≡ coming
   pub waits : t < d.release → queue' ≡ queue
-  pub comes : t < d.release → AddsDue due_cmp coming coming' d true
+  pub comes : t < d.release → UpdatesDue due_cmp coming coming' d true
 
 -- no job to come is released by t
 abbrev pub NoneIsDue : ℕ → BTreeSet Due → Type 0
@@ -89,7 +89,7 @@ NoneIsDue t coming = (d : Due) → contains due_cmp coming d ≡ true → t < d.
 pub record IsTakenOut (t : ℕ) (coming coming' : BTreeSet Due) (d : Due) : Type 0 where
   pub there : contains due_cmp coming d ≡ true
   pub released : d.release ≤ t
-  pub gone : AddsDue due_cmp coming coming' d false
+  pub gone : UpdatesDue due_cmp coming coming' d false
   pub fewer : length coming'.keys < length coming.keys
 
 -- at most this one of the first n cannot be cut

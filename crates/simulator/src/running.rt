@@ -1,5 +1,5 @@
 //! The simulated run.
-ghost use Rattle.std.specs.Prelude.{◌≡◌, ◌≤◌, ◌<◌, ℕ, [], suc, length, slice_index_or, IfOk, OnOk, IfErr};
+ghost use Rattle.std.specs.Prelude.{◌≡◌, ◌≤◌, ◌<◌, ℕ, [], suc, length, replicate, slice_index_or, IfOk, OnOk, IfErr};
 ghost use Rattle.std.specs.Global.{Vec as GlobalVec};
 ghost use Rattle.task_sheet.specs.Sheets.{IsValidSheet};
 ghost use Rattle.preemption.specs.CutLaws.{Serves};
@@ -51,6 +51,13 @@ fn no_arrivals(alloc: Global, n: u32) -> Result<Vec<Vec<u64>>, AllocError>
     Ok(lists)
 }
 
+/// No releases, for so many tasks.
+fn no_releases(alloc: Global, n: u32) -> Result<Vec<u64>, AllocError>
+    ensures { IfOk result (λ releases. releases.items ≡ replicate n 0) }
+{
+    vec![in alloc; 0; n as usize]
+}
+
 /// A simulation before the first tick.
 fn start<P: Policy, M: Preemption>(
     alloc: Global,
@@ -63,7 +70,7 @@ fn start<P: Policy, M: Preemption>(
     ensures valid { IsValidSheet sheet.now }
 {
     let arrivals = no_arrivals(alloc, sheet.len())?;
-    let releases = vec![in alloc; 0; sheet.len() as usize]?;
+    let releases = no_releases(alloc, sheet.len())?;
     let counts = vec![in alloc; 0]?;
     Ok(Simulation {
         jobs: Vec::new(alloc),

@@ -18,4 +18,4 @@ returns-clause-kept g c =
     c.in_ok-arrivals.arrivals.items c.in_ok-releases.releases.items c.in_ok-counts.counts.items
     (no_run_is c.new.result.items c.new-2.result.items c.new.ensures.items c.new-2.ensures.items)
     c.new-3.ensures.items c.new-4.ensures.empty c.new-5.ensures.empty tasks (λ o d b. c.in_ok-arrivals.ensures.none o d (omega (arith, c.len.ensures.len)))
-    (c.in_ok-releases.ensures.items ∙ ap (λ (n : ℕ). replicate n 0) c.len-2.ensures.len) c.in_ok-counts.ensures.items
+    (c.in_ok-releases.ensures ∙ ap (λ (n : ℕ). replicate n 0) c.len-2.ensures.len) c.in_ok-counts.ensures.items

@@ -1,4 +1,4 @@
-use Rattle.std.proofs.Common.{◌≡◌, ℕ, suc, ◌+◌, ◌↔◌, IsTrue, ◌++◌, ◌∷◌, [], List, get_or, ◌∙◌, ap, subst, arith}
+use Rattle.std.proofs.Common.{◌≡◌, ℕ, suc, ◌+◌, ◌↔◌, IsTrue, ◌++◌, ◌∷◌, [], List, get_or, sym, ◌∙◌, ap, subst, arith}
 use Rattle.std.specs.Global.{Vec}
 use Rattle.supply.specs.Promises.{sbf_of}
 use Rattle.task_sheet.specs.Sheets.{task_at}
@@ -9,7 +9,7 @@ use Rattle.simulated_run.specs.SimulatedRun.{World, Moment, may_be_off, with_tic
 use Rattle.simulated_run.proofs.RunFacts.{at_most_one}
 use Rattle.windows.specs.Supplied.{MayBeOff}
 use Rattle.simulator.proofs.SameAnswers.{off_same}
-use Rattle.simulator.specs.SimulationState.{IsKeptAt, HasCuts, run_of, moment_of, world_by}
+use Rattle.simulator.specs.SimulationState.{IsKeptAt, MayBe, HasCuts, run_of, moment_of, world_by}
 use Rattle.simulator.proofs.ArrivalFacts.{lawful_world, counts_promised}
 use Rattle.simulator.proofs.WindowFacts.{count_low, last_count}
 use Rattle.simulator.proofs.TickFacts.{with_tick_is, ticked, kept_then}
@@ -30,7 +30,8 @@ pub advance-requires-clause-tick : goal.advance-requires-clause-tick
 advance-requires-clause-tick g c =
     let w : World = world_by g.P.Policy.meaning g.M.Preemption.cuts c.args.sheet.now c.args.mode in
     let cuts : HasCuts w = λ o b. g.met.M.Preemption.lawful (task_at w.sheet o) (c.len-valid.ensures.valid.each o b) (c.requires.served o b) in
-    c.pick-tick.ensures.may w c.args.t cuts c.requires.kept
+    let m = c.args.simulation.now in
+    subst (λ (t : ℕ). MayBe (record m { words = c.draw_off-off.new.words }) t c.pick-tick.result) (sym c.requires.kept.jobs.now) (c.pick-tick.ensures.may w c.args.t cuts c.requires.kept)
 
 pub overflow_add-count : goal.overflow_add-count
 overflow_add-count g c =

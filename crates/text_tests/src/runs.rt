@@ -177,10 +177,7 @@ const REFUSED: [(&[u8], u64); 23] = [
     // There is no such version.
     (b"poet-run 3\njobs 0 ticks 0\nend\n", 1),
     // A release above its range, and none.
-    (
-        b"poet-run 2\njobs 1 ticks 0\nj 0 0 2000000001 1\nend\n",
-        3,
-    ),
+    (b"poet-run 2\njobs 1 ticks 0\nj 0 0 2000000001 1\nend\n", 3),
     (b"poet-run 2\njobs 1 ticks 0\nj 0 0 1\nend\n", 3),
 ];
 

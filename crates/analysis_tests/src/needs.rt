@@ -93,8 +93,8 @@ fn jitter_blocks(rt: HostRuntime) -> Result<(), Fail> {
         others::<Fifo>(&sheet, 1, 0, 0),
         others::<Fifo>(&sheet, 1, 0, 2),
         need::<Fifo, PerTask>(&sheet, 1, 0, 2),
-        rest::<PerTask>(&sheet, 1),
     ];
-    assert_eq!(rt; of_v.as_slice(), [4, 0, 1, 1, 2, 2].as_slice());
+    assert_eq!(rt; of_v.as_slice(), [4, 0, 1, 1, 2].as_slice());
+    assert_eq!(rt; rest::<PerTask>(&sheet, 1), 2);
     Ok(())
 }

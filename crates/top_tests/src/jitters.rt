@@ -1,11 +1,16 @@
 //! Rows of sheets whose jobs may be released after their arrival.
 use super::cases::{Case, assert_cases};
+use super::files::{ONE_TASK, PERIODIC_RUN};
 use std::test::Fail;
 
 const JITTER: &str =
     "policy = \"fp\"\n\n[[task]]\nname = \"a\"\ncost = 2\ndeadline = 5\npriority = 1\njitter = 3\nperiod = 5\n";
 
 const JITTER_CERT: &str = "poet-cert 1\ntasks 1\ntask 0 2 5 1\np 0 2\nend\n";
+
+/// The first job is released by its jitter after its arrival.
+const JITTER_RUN: &str =
+    "poet-run 2\njobs 2 ticks 8\nj 0 0 3 2\nj 0 5 5 2\nidle 3\nrun 0 2\nrun 1 2\nidle 1\nend\n";
 
 /// Two jobs can be released one tick after the other.
 const JITTER_POINTS: &str =
@@ -19,6 +24,9 @@ const JITTER_BLOCKING: &str =
 
 const JITTER_BLOCKING_CERT: &str =
     "poet-cert 1\ntasks 2\ntask 0 6 8 1\np 0 6\ntask 1 4 4 1\np 0 2\nend\n";
+
+const JITTER_BLOCKING_RUN: &str =
+    "poet-run 2\njobs 2 ticks 10\nj 0 0 2 1\nj 1 0 0 3\nrun 1 3\nrun 0 1\nidle 6\nend\n";
 
 /// The bound is the greatest number.
 const LATEST: &str =
@@ -235,5 +243,94 @@ const REFUSED_SHEETS: [Case; 5] = [
 #[test]
 fn refused_sheets(rt: HostRuntime) -> Result<(), Fail> {
     assert_cases(&rt, rt.alloc(), &REFUSED_SHEETS)?;
+    Ok(())
+}
+
+const RUNS: [Case; 10] = [
+    Case {
+        words: "simulate s dense 8",
+        sheet: JITTER,
+        other: "",
+        status: 0,
+        out: JITTER_RUN,
+        err: "",
+    },
+    Case {
+        words: "audit s c",
+        sheet: JITTER,
+        other: JITTER_RUN,
+        status: 0,
+        out: "compliant\ntask a jobs 2 done 2 worst 5\n",
+        err: "",
+    },
+    Case {
+        words: "audit s c",
+        sheet: JITTER,
+        other: "poet-run 2\njobs 2 ticks 8\nj 0 0 4 2\nj 0 5 5 2\nidle 3\nrun 0 2\nrun 1 2\nidle 1\nend\n",
+        status: 1,
+        out: "broken release job 0\n",
+        err: "",
+    },
+    Case {
+        words: "audit s c",
+        sheet: JITTER,
+        other: "poet-run 2\njobs 2 ticks 8\nj 0 0 3 2\nj 0 5 4 2\nidle 3\nrun 0 2\nrun 1 2\nidle 1\nend\n",
+        status: 1,
+        out: "broken release job 1\n",
+        err: "",
+    },
+    Case {
+        words: "audit s c",
+        sheet: JITTER,
+        other: "poet-run 2\njobs 2 ticks 8\nj 0 0 3 2\nj 0 5 5 2\nidle 4\nrun 0 2\nrun 1 2\nend\n",
+        status: 1,
+        out: "broken idle job 0 tick 3\n",
+        err: "",
+    },
+    Case {
+        words: "audit s c",
+        sheet: JITTER,
+        other: PERIODIC_RUN,
+        status: 0,
+        out: "compliant\ntask a jobs 2 done 2 worst 2\n",
+        err: "",
+    },
+    Case {
+        words: "audit s c",
+        sheet: ONE_TASK,
+        other: JITTER_RUN,
+        status: 1,
+        out: "broken release job 0\n",
+        err: "",
+    },
+    Case {
+        words: "simulate s dense 8",
+        sheet: JITTER_POINTS,
+        other: "",
+        status: 0,
+        out: "poet-run 2\njobs 2 ticks 8\nj 0 0 4 2\nj 0 5 5 2\nidle 4\nrun 0 2\nrun 1 2\nend\n",
+        err: "",
+    },
+    Case {
+        words: "simulate s dense 10",
+        sheet: JITTER_BLOCKING,
+        other: "",
+        status: 0,
+        out: JITTER_BLOCKING_RUN,
+        err: "",
+    },
+    Case {
+        words: "audit s c",
+        sheet: JITTER_BLOCKING,
+        other: JITTER_BLOCKING_RUN,
+        status: 0,
+        out: "compliant\ntask u jobs 1 done 1 worst 4\ntask v jobs 1 done 1 worst 3\n",
+        err: "",
+    },
+];
+
+#[test]
+fn runs(rt: HostRuntime) -> Result<(), Fail> {
+    assert_cases(&rt, rt.alloc(), &RUNS)?;
     Ok(())
 }

@@ -9,7 +9,7 @@ use std::test::Fail;
 use task_sheet::Sheet;
 
 /// A sheet, a mode and a number of ticks, and the text of the simulated run.
-const ROWS: [(&str, Mode, u64, &str); 6] = [
+const ROWS: [(&str, Mode, u64, &str); 8] = [
     (
         NEVER_PREEMPTED,
         Mode::Dense,
@@ -52,6 +52,25 @@ task = [{ name = 'a', cost = 5, deadline = 10, priority = 1, period = 10, preemp
         Mode::Dense,
         6,
         "poet-run 2\njobs 1 ticks 6\nj 0 0 0 5 2 2 1\nrun 0 5\nidle 1\nend\n",
+    ),
+    // The jitter is later than the first arrival, and earlier than the second.
+    (
+        "policy = 'fp'
+task = [{ name = 'a', cost = 2, deadline = 5, priority = 1, period = 5, jitter = 3 }]",
+        Mode::Dense,
+        8,
+        "poet-run 2\njobs 2 ticks 8\nj 0 0 3 2\nj 0 5 5 2\nidle 3\nrun 0 2\nrun 1 2\nidle 1\nend\n",
+    ),
+    // The words would release the job of tick 9 at tick 10, before the job of tick 7.
+    (
+        "policy = 'fp'
+task = [
+    { name = 'a', cost = 1, deadline = 4, priority = 2, period = 4 },
+    { name = 'b', cost = 2, deadline = 2, priority = 1, period = 2, jitter = 6 },
+]",
+        Mode::Seed(2),
+        14,
+        "poet-run 2\njobs 8 ticks 14\nj 0 1 1 1\nj 1 1 1 2\nj 1 3 4 2\nj 0 5 5 1\nj 1 5 11 1\nj 1 7 11 1\nj 1 9 11 2\nj 0 10 10 1\nidle 1\nrun 0 1\nrun 1 2\nrun 2 1\nrun 3 1\nrun 2 1\nidle 3\nrun 7 1\nrun 4 1\nrun 5 1\nrun 6 1\nend\n",
     ),
 ];
 

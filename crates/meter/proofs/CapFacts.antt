@@ -1,11 +1,9 @@
-use Rattle.std.proofs.Common.{◌≡◌, ◌≢◌, ℕ, ◌+◌, ◌-◌, ◌≤◌, ◌<◌, ◌≤ℤ◌, ℤ, pos, negsuc, length, arith, inl, inr}
+use Rattle.std.proofs.Common.{◌≢◌, ℕ, ◌+◌, ◌≤◌, ◌<◌, length, arith, inl, inr}
 use Rattle.std.proofs.lemmas.Bool.{cases_lt}
-use Rattle.std.proofs.lemmas.Int.{ints}
 use Rattle.lists.specs.Searches.{IsLeast}
 use Rattle.task_sheet.specs.SheetParts.{SheetParts}
 use Rattle.policy.specs.declared.keys.Cap.{Cap}
 use Rattle.policy.specs.declared.keys.Cap.TheVariants.{Nothing, At, All}
-use Rattle.policy.specs.Keys.{not_below_zero}
 use Rattle.policy.proofs.KeyFacts.{floor_mono}
 use Rattle.policy.specs.PolicyMeaning.{PolicyMeaning}
 use Rattle.policy.specs.PolicyLaws.{IsLawfulPolicy, GrowsTo}

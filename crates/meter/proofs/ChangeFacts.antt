@@ -1,9 +1,8 @@
 use Rattle.std.specs.Option.{unwrap_or}
-use Rattle.std.proofs.Common.{◌≡◌, ◌≢◌, ℕ, ◌+◌, ◌-◌, ◌*◌, ◌≤◌, ◌<◌, ◌==◌, Bool, true, false, not, cond, Option, Some, None, length, ap, inl, inr, arith, refl, sym, ◌∙◌, subst, eq-eqb, pos, negsuc}
+use Rattle.std.proofs.Common.{◌≡◌, ◌≢◌, ℕ, ◌+◌, ◌-◌, ◌≤◌, ◌<◌, Bool, cond, Option, Some, None, length, ap, inl, inr, arith, refl, sym, ◌∙◌, subst, eq-eqb, pos, negsuc}
 use Rattle.std.proofs.lemmas.Bool.{cases_lt, cases_eq, ne_eqb}
 use Rattle.std.proofs.lemmas.Int.{ints}
 use Rattle.lists.specs.Searches.{IsLeast, IsLeastTo}
-use Rattle.lists.specs.Firsts.{all_below}
 use Rattle.curve.specs.declared.prefix.Stair.{Stair}
 use Rattle.curve.specs.CurveValue.{Curve}
 use Rattle.curve.specs.Curves.{alpha_of}

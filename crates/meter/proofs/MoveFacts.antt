@@ -13,7 +13,7 @@ use Rattle.meter.specs.declared.tracks.Tracks.{Tracks}
 use Rattle.meter.specs.Soonests.{number_of, IsNextFrom}
 use Rattle.meter.specs.Changes.{IsCounted}
 use Rattle.meter.specs.Places.{no_place, place_of, part_of, asked_of, IsNear, AreNear}
-use Rattle.meter.specs.Tracking.{IsKeyed, AreFull, IsTracking, IsTrackingAt, HasBegun, IsOpen, AreEnded, AreCounted, IsCountedAt, KeepCounts, KeepEnds, IsEndMoved, IsRecounted, AreMoved, AreRecounted, IsReady, IsSeated, IsSeatedAt, IsSettled, AreSeated}
+use Rattle.meter.specs.Tracking.{IsKeyed, IsTracking, IsTrackingAt, HasBegun, IsOpen, AreEnded, AreCounted, IsCountedAt, KeepCounts, KeepEnds, IsEndMoved, IsRecounted, AreMoved, AreRecounted, IsReady, IsSeated, IsSeatedAt, IsSettled, AreSeated}
 use Rattle.meter.proofs.SetFacts.{set_one, set_two, set_three}
 
 pub near_of : (p : PolicyMeaning) (sheet : SheetParts) (i : ℕ) (places : List Place) (untils froms : List ℕ) (sum : ℕ) → IsTracking p sheet i places untils froms sum → AreNear sheet places

@@ -1,6 +1,5 @@
-use Rattle.std.proofs.Common.{◌≡◌, ◌≢◌, ℕ, ◌+◌, ◌-◌, ◌*◌, ◌≤◌, ◌<◌, ◌==◌, Bool, cond, List, length, min, ap, inl, inr, arith, refl, sym, ◌∙◌, eq-eqb}
+use Rattle.std.proofs.Common.{◌≡◌, ◌≢◌, ℕ, ◌+◌, ◌-◌, ◌*◌, ◌≤◌, ◌<◌, Bool, cond, List, length, min, ap, inl, inr, arith, refl, sym, ◌∙◌, eq-eqb}
 use Rattle.std.proofs.lemmas.Bool.{ne_eqb, cases_lt}
-use Rattle.lists.specs.Sums.{sum_below}
 use Rattle.curve.specs.CurveValue.{Curve}
 use Rattle.curve.specs.Curves.{alpha_of}
 use Rattle.curve.specs.Validity.{IsCurve}

@@ -1,4 +1,4 @@
-use Rattle.std.proofs.Common.{◌≡◌, ℕ, ◌-◌, ◌≤◌, ◌<◌, ◌==◌, List, length, false, Some, None, sym, ◌∙◌, refl, subst, ap, inl, inr, arith}
+use Rattle.std.proofs.Common.{◌≡◌, ℕ, ◌-◌, ◌≤◌, ◌<◌, ◌==◌, List, length, false, Some, None, sym, ◌∙◌, refl, subst, inl, inr, arith}
 use Rattle.std.proofs.lemmas.Bool.{cases_lt, ne_eqb}
 use Rattle.lists.specs.Searches.{IsFirstBelow}
 use Rattle.lists.proofs.FirstFacts.{all_broken}
@@ -7,12 +7,11 @@ use Rattle.task_sheet.specs.Sheets.{IsValidSheet}
 use Rattle.policy.specs.PolicyMeaning.{PolicyMeaning}
 use Rattle.policy.specs.Offsets.{compared_of, IsSame}
 use Rattle.search_space.specs.PointLaws.{AcrossGap}
-use Rattle.search_space.specs.Points.{same_at, IsPointAfter, IsAround}
+use Rattle.search_space.specs.Points.{same_at, IsPointAfter}
 use Rattle.search_space.proofs.PointFacts.{same_true, first_after, none_after}
 use Rattle.meter.specs.declared.tracks.Place.{Place}
 use Rattle.meter.specs.Places.{place_of}
 use Rattle.meter.specs.Soonests.{number_of, IsLeastOf}
-use Rattle.meter.specs.Changes.{IsCounted}
 use Rattle.meter.specs.Tracking.{AreCounted}
 
 module _ (p : PolicyMeaning) (sheet : SheetParts) (i a : ℕ) (places : List Place) (changes : List ℕ) (counted : AreCounted p sheet i a places changes) where

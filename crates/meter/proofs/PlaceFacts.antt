@@ -1,6 +1,6 @@
-use Rattle.std.proofs.Common.{◌≡◌, ◌≢◌, ℕ, zero, suc, ◌+◌, ◌-◌, ◌*◌, ◌^◌, ◌≤◌, ◌<◌, ◌==◌, Bool, true, false, cond, List, length, set, ap, inl, inr, arith}
+use Rattle.std.proofs.Common.{◌≡◌, ◌≢◌, ℕ, zero, suc, ◌+◌, ◌*◌, ◌^◌, ◌≤◌, ◌<◌, ◌==◌, Bool, true, false, cond, List, length, set, ap, inl, inr, arith}
 use Rattle.std.proofs.lemmas.Bool.{cases_lt}
-use Rattle.std.proofs.lemmas.List.{length-set, get_or-set_same, get_or-set_other}
+use Rattle.std.proofs.lemmas.List.{get_or-set_same, get_or-set_other}
 use Rattle.std.proofs.Math.Nat.{mul-le-mul_left}
 use Rattle.lists.specs.Sums.{sum_below}
 use Rattle.lists.proofs.SumFacts.{sum_same, sum_bound}
@@ -55,7 +55,7 @@ module _ (p : PolicyMeaning) (sheet : SheetParts) (i : ℕ) (places : List Place
   sum_put near o b place = omega (
     arith,
     sum_changed (asked_of p sheet i places) (asked_of p sheet i (set places o place)) (length sheet.tasks) o b
-    (λ k l ne. ap (part_of p sheet i k) (get_or-set_other places o k place no_place ne)),
+        (λ k l ne. ap (part_of p sheet i k) (get_or-set_other places o k place no_place ne)),
     ap (part_of p sheet i o) (get_or-set_same places o place no_place (omega (arith, near.count))),
   )
 
@@ -77,6 +77,6 @@ pub sum_high : (p : PolicyMeaning) (sheet : SheetParts) → IsValidSheet sheet �
 sum_high p sheet ok i places near = omega (
   arith,
   sum_bound (asked_of p sheet i places) (2 ^ 83) (length sheet.tasks)
-  (λ o b. part_high p sheet ok i o b (place_of places o) (small (task_at sheet o) (ok.each o b) (place_of places o) (near.each o b))),
+      (λ o b. part_high p sheet ok i o b (place_of places o) (small (task_at sheet o) (ok.each o b) (place_of places o) (near.each o b))),
   ok.few,
 )

@@ -1,5 +1,5 @@
 -- One task at another place.
-use Rattle.std.proofs.Common.{◌≡◌, ◌≢◌, ℕ, ◌+◌, ◌-◌, ◌≤◌, ◌<◌, List, length, set, replicate, ap, arith, refl, sym, ◌∙◌, subst}
+use Rattle.std.proofs.Common.{◌≡◌, ℕ, ◌+◌, ◌-◌, ◌≤◌, ◌<◌, List, length, set, replicate, ap, arith, refl, sym, ◌∙◌, subst}
 use Rattle.std.proofs.lemmas.List.{length-set, get_or-set_same, get_or-set_other, length-replicate, get_or-replicate}
 use Rattle.lists.specs.Sums.{sum_below}
 use Rattle.curve.specs.declared.prefix.Stair.{Stair}
@@ -17,7 +17,7 @@ use Rattle.meter.specs.Soonests.{number_of}
 use Rattle.meter.specs.Changes.{IsCounted}
 use Rattle.meter.specs.Places.{no_place, place_of, part_of, asked_of, IsSmall, IsNear, AreNear}
 use Rattle.meter.proofs.PlaceFacts.{small}
-use Rattle.meter.specs.Tracking.{IsKeyed, AreFull, IsTracking, IsTrackingAt, KeepCounts, KeepEnds, IsCountedAt, IsEndMoved, IsRecounted, IsReady, IsSeated, IsSeatedAt, IsSettled}
+use Rattle.meter.specs.Tracking.{IsTracking, IsTrackingAt, KeepCounts, KeepEnds, IsCountedAt, IsEndMoved, IsRecounted, IsReady, IsSeated, IsSeatedAt, IsSettled}
 use Rattle.meter.proofs.MoveFacts.{end_tracking, end_at, end_counts, count_tracking, count_at, count_others, count_ends, settled_at, settled_others, settled_near}
 
 -- the stair of task o, moved to the end x
@@ -109,11 +109,11 @@ module _ (p : PolicyMeaning) (sheet : SheetParts) (i o : ℕ) (b : o < length sh
       let places = t.places.items in
       let seated = settled_at places t.untils t.froms t.changes o in_places in_untils in_froms in_changes place until from change p sheet i here in
       let all : (k : ℕ) → IsSeated p sheet i 0 0 k (place_of (set places o place) k) (number_of (set t.untils o until) k) (number_of (set t.froms o from) k) (number_of (set t.changes o change) k) → IsSeatedAt p sheet i 0 0 new k =
-          λ k h.
-          subst (λ (ps : List Place). IsSeated p sheet i 0 0 k (place_of ps k) (number_of new.untils k) (number_of new.froms k) (number_of new.changes k)) (sym ep)
-          (subst (λ (us : List ℕ). IsSeated p sheet i 0 0 k (place_of (set places o place) k) (number_of us k) (number_of new.froms k) (number_of new.changes k)) (sym eu)
-          (subst (λ (fs : List ℕ). IsSeated p sheet i 0 0 k (place_of (set places o place) k) (number_of (set t.untils o until) k) (number_of fs k) (number_of new.changes k)) (sym ef)
-          (subst (λ (ns : List ℕ). IsSeated p sheet i 0 0 k (place_of (set places o place) k) (number_of (set t.untils o until) k) (number_of (set t.froms o from) k) (number_of ns k)) (sym ec) h))) in
+      λ k h.
+      subst (λ (ps : List Place). IsSeated p sheet i 0 0 k (place_of ps k) (number_of new.untils k) (number_of new.froms k) (number_of new.changes k)) (sym ep)
+      (subst (λ (us : List ℕ). IsSeated p sheet i 0 0 k (place_of (set places o place) k) (number_of us k) (number_of new.froms k) (number_of new.changes k)) (sym eu)
+      (subst (λ (fs : List ℕ). IsSeated p sheet i 0 0 k (place_of (set places o place) k) (number_of (set t.untils o until) k) (number_of fs k) (number_of new.changes k)) (sym ef)
+      (subst (λ (ns : List ℕ). IsSeated p sheet i 0 0 k (place_of (set places o place) k) (number_of (set t.untils o until) k) (number_of (set t.froms o from) k) (number_of ns k)) (sym ec) h))) in
       record {
         ready = record {
           near = subst (λ (ps : List Place). AreNear sheet ps) (sym ep) (settled_near places t.untils t.froms t.changes o in_places in_untils in_froms in_changes place until from change sheet b ready.near near);

@@ -60,7 +60,12 @@ fn block_at<P: Policy, M: Preemption>(sheet: &Sheet, i: u32, a: u64, o: u32, beg
 }
 
 /// The task that blocks longest at this offset, of all.
-pub fn find_blocker<P: Policy, M: Preemption>(sheet: &Sheet, i: u32, a: u64, begun: &[u64]) -> Blocker
+pub fn find_blocker<P: Policy, M: Preemption>(
+    sheet: &Sheet,
+    i: u32,
+    a: u64,
+    begun: &[u64],
+) -> Blocker
     requires i { i < length sheet.now.tasks }
     requires offset { a ≤ 1000000000 }
     requires begun { AreBegun M.cuts sheet.now begun.now }

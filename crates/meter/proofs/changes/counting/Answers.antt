@@ -1,4 +1,4 @@
-use Rattle.std.proofs.Common.{◌≡◌, ◌≤◌, ℕ, arith, subst, sym}
+use Rattle.std.proofs.Common.{ℕ, arith, subst, sym}
 use Rattle.policy.specs.Offsets.{compared_of}
 use Rattle.meter.specs.Changes.{IsCounted}
 use Rattle.meter.proofs.ChangeFacts.{counted_by, compared_high}

@@ -1,5 +1,4 @@
-use Rattle.std.proofs.Common.{◌≡◌, ◌+◌, ◌-◌, ◌≤◌, ◌<◌, arith, ap}
-use Rattle.meter.specs.CapNumbers.{reach_at}
+use Rattle.std.proofs.Common.{◌-◌, arith}
 use Rattle.meter.proofs.CapFacts.{least_past, none_to}
 use Rattle.meter.proofs.changes.least_reach.Goals as goal
 

@@ -1,4 +1,4 @@
-use Rattle.std.proofs.Common.{◌+◌, arith, refl}
+use Rattle.std.proofs.Common.{arith}
 use Rattle.meter.proofs.MoveFacts.{seated_one, seated_all}
 use Rattle.meter.proofs.moves.seat.Goals as goal
 

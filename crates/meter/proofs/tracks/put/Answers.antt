@@ -1,6 +1,6 @@
-use Rattle.std.proofs.Common.{◌≡◌, ◌+◌, ◌-◌, arith}
+use Rattle.std.proofs.Common.{◌≡◌, arith}
 use Rattle.task_sheet.specs.Sheets.{task_at}
-use Rattle.meter.specs.Places.{place_of, part_of, asked_of}
+use Rattle.meter.specs.Places.{place_of, asked_of}
 use Rattle.meter.proofs.PlaceFacts.{small, sum_high, asked_le, sum_put}
 use Rattle.meter.proofs.tracks.put.Goals as goal
 

@@ -1,4 +1,4 @@
-use Rattle.std.proofs.Common.{◌≡◌, ℕ, replicate, length, rules}
+use Rattle.std.proofs.Common.{◌≡◌, replicate, length, rules}
 use Rattle.meter.specs.declared.tracks.Place.{Place}
 use Rattle.meter.proofs.StepFacts.{ready_ground}
 use Rattle.meter.proofs.meter.Meter.new.Goals as goal

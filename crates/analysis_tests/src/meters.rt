@@ -24,14 +24,6 @@ task = [
     { name = 'b', cost = 2, deadline = 6, period = 6, preemption = 'never' },
 ]";
 
-/// Jobs come late by up to three ticks.
-const LATE: &str = "
-policy = 'edf'
-task = [
-    { name = 'a', cost = 2, deadline = 4, period = 4 },
-    { name = 'b', cost = 2, deadline = 6, period = 6, jitter = 3 },
-]";
-
 /// Moves the meter there, and gives the need.
 fn moved<P: Policy, M: Preemption>(meter: &mut Meter<'_, P, M>, a: u64, x: u64) -> u128
     requires order { meter.old.offset ≤ a }
@@ -107,20 +99,5 @@ fn blocked_early(rt: HostRuntime) -> Result<(), Fail> {
         moved(&mut meter, 2, 4),
     ];
     assert_eq!(rt; found.as_slice(), [3, 3, 4].as_slice());
-    Ok(())
-}
-
-#[test]
-fn late(rt: HostRuntime) -> Result<(), Fail> {
-    let sheet = sheet_of(rt.alloc(), LATE)?;
-    let mut meter = Meter::<Edf, PerTask>::new(rt.alloc(), &sheet)?;
-    // A job of `b` that arrived three ticks before the window may be released in it.
-    let found = [
-        meter.need(),
-        moved(&mut meter, 0, 1),
-        moved(&mut meter, 5, 3),
-        moved(&mut meter, 5, 4),
-    ];
-    assert_eq!(rt; found.as_slice(), [4, 4, 6, 8].as_slice());
     Ok(())
 }

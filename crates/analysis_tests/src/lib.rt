@@ -10,6 +10,8 @@ mod first_failures;
 #[cfg(test)]
 mod laws;
 #[cfg(test)]
+mod meters;
+#[cfg(test)]
 mod needs;
 #[cfg(test)]
 mod offsets;

@@ -1,0 +1,4 @@
+pub mod CountFacts
+pub mod MostFacts
+pub mod StepFacts
+pub mod InferFacts

@@ -1,0 +1,4 @@
+pub mod Limits
+pub mod Traces
+pub mod Curves
+pub mod Gaps

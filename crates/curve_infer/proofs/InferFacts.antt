@@ -1,19 +1,17 @@
-use Rattle.std.proofs.Common.{◌≡◌, ℕ, zero, suc, ◌+◌, ◌-◌, ◌*◌, ◌/◌, ◌%◌, ◌<◌, ◌≤◌, List, [], ◌∷◌, ◌++◌, length, get_or, refl, sym, ◌∙◌, ap, subst, arith, inl, inr}
+use Rattle.std.proofs.Common.{◌≡◌, ℕ, zero, suc, ◌+◌, ◌-◌, ◌*◌, ◌/◌, ◌%◌, ◌<◌, ◌≤◌, List, [], ◌∷◌, ◌++◌, length, sym, ◌∙◌, ap, arith, inl, inr}
 use Rattle.std.proofs.lemmas.Bool.{cases_lt}
 use Rattle.std.proofs.lemmas.Nat.{div-add-mod', mod_below}
 use Rattle.std.proofs.Math.Nat.{mul-le-mul_left}
-use Rattle.curve.specs.declared.prefix.Step.{Step}
 use Rattle.curve.specs.CurveValue.{Curve}
-use Rattle.curve.specs.Curves.{last_value, value_of, alpha_of}
+use Rattle.curve.specs.Curves.{value_of, alpha_of}
 use Rattle.curve.specs.Validity.{IsCurve, StartsAtOne}
 use Rattle.curve.proofs.RiseFacts.{alpha_at}
-use Rattle.run_model.specs.declared.run.Run.{Run}
 use Rattle.schedule_laws.specs.Compliance.{arrivals_of}
 use Rattle.curve_infer.specs.Traces.{IsTrace}
 use Rattle.curve_infer.specs.Curves.{times_in, Respects, most_of, steps_to, inferred_curve, IsNextRise, IsLeastCurve, KeepsCurves}
 use Rattle.curve_infer.proofs.CountFacts.{arrive_alike}
 use Rattle.curve_infer.proofs.MostFacts.{most_at, most_low, most_zero, most_high, most_mono, most_cycles, most_one}
-use Rattle.curve_infer.proofs.StepFacts.{IsRising, steps_flat, value_steps, steps_are, steps_start, steps_once}
+use Rattle.curve_infer.proofs.StepFacts.{IsRising, value_steps, steps_are, steps_start, steps_once}
 
 pub most_rises : (times : List ℕ) → IsTrace times → IsRising (most_of times)
 most_rises times ok = record { begins = most_zero times ok; mono = most_mono times ok }

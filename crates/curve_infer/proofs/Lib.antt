@@ -2,3 +2,6 @@ pub mod CountFacts
 pub mod MostFacts
 pub mod StepFacts
 pub mod InferFacts
+pub mod LineFacts
+pub mod ReadOnFacts
+pub mod ReadingFacts

@@ -5,10 +5,10 @@ ghost use Rattle.curve_infer.specs.Traces.{are_times as are_times_of, is_trace a
 use std::marker::Model;
 
 /// The most arrivals of a trace.
-const MOST_ARRIVALS: usize = 10_000;
+pub(crate) const MOST_ARRIVALS: usize = 10_000;
 
 /// The latest arrival of a trace, in ticks.
-const LATEST: u64 = 1_000_000_000;
+pub(crate) const LATEST: u64 = 1_000_000_000;
 
 /// The times of 1 to 10,000 arrivals, in ticks up to 10^9, each no earlier than the one before it.
 #[derive(Debug, Drop)]
@@ -59,6 +59,14 @@ impl Trace {
         } else {
             None
         }
+    }
+
+    /// The trace of times that are known to be one's.
+    pub fn new(times: Vec<u64>) -> Trace
+        requires { IsTrace times.items }
+        ensures { result ≡ times.items }
+    {
+        Trace { times }
     }
 
     /// In ticks.

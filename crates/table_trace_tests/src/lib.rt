@@ -3,3 +3,5 @@
 
 #[cfg(test)]
 mod tables;
+#[cfg(test)]
+mod traces;

@@ -1,4 +1,4 @@
-use Rattle.std.proofs.Common.{◌≡◌, ℕ, ◌+◌, ap, subst, sym, arith}
+use Rattle.std.proofs.Common.{ℕ, ◌+◌, subst, sym, arith}
 use Rattle.curve_infer.specs.Curves.{IsLeastLength}
 use Rattle.curve_infer.proofs.MostFacts.{length_is, gap_high}
 use Rattle.curve_infer.proofs.inferring.least_length.Goals as goal

@@ -1,4 +1,4 @@
-use Rattle.std.proofs.Common.{◌≡◌, ℕ, ◌+◌, ap, subst, sym, arith}
+use Rattle.std.proofs.Common.{arith}
 use Rattle.curve_infer.proofs.MostFacts.{most_high}
 use Rattle.curve_infer.proofs.inferring.next_rise.Goals as goal
 

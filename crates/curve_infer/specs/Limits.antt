@@ -1,0 +1,9 @@
+use Rattle.std.specs.Prelude.{ℕ}
+
+-- the most arrivals of a trace
+abbrev pub most_arrivals : ℕ
+most_arrivals = 10000
+
+-- the latest arrival of a trace, in ticks
+abbrev pub latest : ℕ
+latest = 1000000000

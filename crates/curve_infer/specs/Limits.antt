@@ -1,4 +1,5 @@
 use Rattle.std.specs.Prelude.{ℕ}
+use Rattle.lists.specs.Limits.{greatest_number}
 
 -- the most arrivals of a trace
 abbrev pub most_arrivals : ℕ
@@ -6,4 +7,4 @@ most_arrivals = 10000
 
 -- the latest arrival of a trace, in ticks
 abbrev pub latest : ℕ
-latest = 1000000000
+latest = greatest_number

@@ -1,5 +1,6 @@
 //! The curve of a trace.
 ghost use Rattle.std.specs.Prelude.{◌≡◌, ◌-◌, ◌≤◌, ◌<◌, length, IfOk};
+ghost use Rattle.lists.specs.Limits.{greatest_number};
 ghost use Rattle.curve.specs.Validity.{IsCurve};
 ghost use Rattle.curve_infer.specs.Traces.{IsTrace};
 ghost use Rattle.curve_infer.specs.Gaps.{gap_of, min_to};
@@ -36,7 +37,7 @@ fn least_length(times: &[u64], n: usize) -> u64
 fn next_rise(times: &[u64], n: usize, horizon: u64) -> u64
     requires trace { IsTrace times.now }
     requires some { 1 ≤ n }
-    requires horizon { horizon ≤ 1000000000 }
+    requires horizon { horizon ≤ greatest_number }
     ensures { IsNextRise times.now n horizon result }
 {
     if n > times.len() {
@@ -50,7 +51,7 @@ fn next_rise(times: &[u64], n: usize, horizon: u64) -> u64
 /// to the horizon, it has as many arrivals as the trace has at most in any window of `d` ticks.
 pub fn infer(alloc: Global, trace: &Trace, horizon: u64) -> Result<Prefix, AllocError>
     requires low { 1 ≤ horizon }
-    requires high { horizon ≤ 1000000000 }
+    requires high { horizon ≤ greatest_number }
     ensures defined { IfOk result (λ prefix. prefix ≡ inferred_curve trace.now horizon) }
     ensures valid { IfOk result IsCurve }
     ensures respected { IfOk result (Respects trace.now) }

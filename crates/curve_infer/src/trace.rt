@@ -2,13 +2,14 @@
 ghost use Rattle.std.specs.Prelude.{◌≡◌, ◌↔◌, IsSome, IfSome};
 ghost use Rattle.curve_infer.specs.Traces.{are_times as are_times_of, is_trace as is_trace_of, IsTrace};
 
+use lists::limits::GREATEST_NUMBER;
 use std::marker::Model;
 
 /// The most arrivals of a trace.
 pub(crate) const MOST_ARRIVALS: usize = 10_000;
 
 /// The latest arrival of a trace, in ticks.
-pub(crate) const LATEST: u64 = 1_000_000_000;
+pub(crate) const LATEST: u64 = GREATEST_NUMBER;
 
 /// The times of 1 to 10,000 arrivals, in ticks up to 10^9, each no earlier than the one before it.
 #[derive(Debug, Drop)]

@@ -1,4 +1,5 @@
 use Rattle.std.specs.Prelude.{◌≡◌, ◌≢◌, ℕ, ◌<◌, ◌≤◌}
+use Rattle.lists.specs.Limits.{greatest_number}
 use Rattle.task_sheet.specs.SheetParts.{SheetParts}
 use Rattle.policy.specs.PolicyMeaning.{PolicyMeaning}
 use Rattle.policy.specs.Offsets.{compared_of}
@@ -12,5 +13,5 @@ pub record IsChange (p : PolicyMeaning) (sheet : SheetParts) (i a o b : ℕ) : T
 pub record IsCounted (p : PolicyMeaning) (sheet : SheetParts) (i a o count change : ℕ) : Type 0 where
   pub is : count ≡ compared_of p sheet i a o
   pub later : a < change
-  pub same : (b : ℕ) → a ≤ b → b < change → b ≤ 1000000000 → compared_of p sheet i b o ≡ count
-  pub differs : change ≤ 1000000000 → compared_of p sheet i change o ≢ count
+  pub same : (b : ℕ) → a ≤ b → b < change → b ≤ greatest_number → compared_of p sheet i b o ≡ count
+  pub differs : change ≤ greatest_number → compared_of p sheet i change o ≢ count

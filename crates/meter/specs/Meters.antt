@@ -1,4 +1,5 @@
 use Rattle.std.specs.Prelude.{◌≡◌, ℕ, ◌≤◌, ◌<◌, List, length}
+use Rattle.lists.specs.Limits.{greatest_number}
 use Rattle.task_sheet.specs.SheetParts.{SheetParts}
 use Rattle.task_sheet.specs.Sheets.{IsValidSheet}
 use Rattle.policy.specs.PolicyMeaning.{PolicyMeaning}
@@ -19,8 +20,8 @@ pub record IsMetering (p : PolicyMeaning) (m : CutMeaning) (sheet : SheetParts) 
   pub valid : IsValidSheet sheet
   pub served : Serves m sheet
   pub in_range : i < length sheet.tasks
-  pub offset_high : a < 1000000000
-  pub end_high : x ≤ 1000000000
+  pub offset_high : a < greatest_number
+  pub end_high : x ≤ greatest_number
   pub seated : AreSeated p sheet i a x t
   pub begun_is : AreBegun m sheet begun
   pub blocker_is : IsBlocker p m sheet i a blocker

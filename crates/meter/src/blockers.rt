@@ -1,5 +1,6 @@
 //! Which segment that began before the window blocks longest.
 ghost use Rattle.std.specs.Prelude.{◌≡◌, ◌≤◌, ◌<◌, length, IfOk};
+ghost use Rattle.lists.specs.Limits.{greatest_number};
 ghost use Rattle.preemption.specs.CutLaws.{Serves};
 ghost use Rattle.demand.specs.Demand.{block_of};
 ghost use Rattle.meter.specs.Blockers.{AreBegun, IsLeft, IsBlocker};
@@ -44,10 +45,10 @@ pub fn begun_segments<M: Preemption>(alloc: Global, sheet: &Sheet) -> Result<Vec
 fn block_at<P: Policy, M: Preemption>(sheet: &Sheet, i: u32, a: u64, o: u32, begun: &[u64]) -> u64
     requires i { i < length sheet.now.tasks }
     requires o { o < length sheet.now.tasks }
-    requires offset { a ≤ 1000000000 }
+    requires offset { a ≤ greatest_number }
     requires begun { AreBegun M.cuts sheet.now begun.now }
     ensures exact { result ≡ block_of P.meaning M.cuts sheet.now i a o }
-    ensures bound { result ≤ 1000000000 }
+    ensures bound { result ≤ greatest_number }
 {
     if o == i {
         return 0;
@@ -67,7 +68,7 @@ pub fn find_blocker<P: Policy, M: Preemption>(
     begun: &[u64],
 ) -> Blocker
     requires i { i < length sheet.now.tasks }
-    requires offset { a ≤ 1000000000 }
+    requires offset { a ≤ greatest_number }
     requires begun { AreBegun M.cuts sheet.now begun.now }
     ensures { IsBlocker P.meaning M.cuts sheet.now i a result }
 {
@@ -93,7 +94,7 @@ pub fn keep_blocker<P: Policy, M: Preemption>(
 ) -> Blocker
     requires i { i < length sheet.now.tasks }
     requires order { from ≤ a }
-    requires offset { a ≤ 1000000000 }
+    requires offset { a ≤ greatest_number }
     requires begun { AreBegun M.cuts sheet.now begun.now }
     requires before { IsBlocker P.meaning M.cuts sheet.now i from before }
     ensures { IsBlocker P.meaning M.cuts sheet.now i a result }

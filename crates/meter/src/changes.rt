@@ -1,18 +1,20 @@
 //! When the numbers that tell offsets apart change.
 ghost use Rattle.std.specs.Prelude.{◌≡◌, ◌≢◌, ◌≤◌, ◌<◌, length};
+ghost use Rattle.lists.specs.Limits.{greatest_number};
 ghost use Rattle.lists.specs.Searches.{IsLeast, IsLeastTo};
 ghost use Rattle.meter.specs.CapNumbers.{reach_of, reach_at};
 ghost use Rattle.meter.specs.Changes.{IsChange, IsCounted};
 
+use lists::limits::GREATEST_NUMBER;
 use policy::{Cap, Policy};
 use search_space::compared;
 use task_sheet::Sheet;
 
 /// The last offset that is looked at, in ticks.
-const LAST: u64 = 1_000_000_000;
+const LAST: u64 = GREATEST_NUMBER;
 
 /// An offset past them all, in ticks.
-const NEVER: u64 = 2_000_000_000;
+const NEVER: u64 = 2 * GREATEST_NUMBER;
 
 /// The number of a task at an offset, and since when it is another.
 #[derive(Clone, Copy, Debug, PartialEq, Eq)]
@@ -38,7 +40,7 @@ fn cap_reach<P: Policy>(sheet: &Sheet, i: u32, o: u32, a: u64) -> u64
     requires i { i < length sheet.now.tasks }
     requires o { o < length sheet.now.tasks }
     requires other { i ≢ o }
-    requires offset { a ≤ 1000000000 }
+    requires offset { a ≤ greatest_number }
     ensures { result ≡ reach_at P.meaning sheet.now i o a }
 {
     reach(P::cap(sheet, i, o, a))
@@ -50,8 +52,8 @@ fn least_between<P: Policy>(sheet: &Sheet, i: u32, o: u32, e: u64, from: u64, to
     requires i { i < length sheet.now.tasks }
     requires o { o < length sheet.now.tasks }
     requires other { i ≢ o }
-    requires from { from ≤ 1000000000 }
-    requires to { to ≤ 1000000000 }
+    requires from { from ≤ greatest_number }
+    requires to { to ≤ greatest_number }
     requires less { reach_at P.meaning sheet.now i o from < e }
     requires more { e ≤ reach_at P.meaning sheet.now i o to }
     ensures least { IsLeast (λ b. e ≤ reach_at P.meaning sheet.now i o b) result }
@@ -76,9 +78,9 @@ fn least_reach<P: Policy>(sheet: &Sheet, i: u32, o: u32, e: u64, a: u64) -> Opti
     requires i { i < length sheet.now.tasks }
     requires o { o < length sheet.now.tasks }
     requires other { i ≢ o }
-    requires offset { a ≤ 1000000000 }
+    requires offset { a ≤ greatest_number }
     requires less { reach_at P.meaning sheet.now i o a < e }
-    ensures { IsLeastTo (λ b. e ≤ reach_at P.meaning sheet.now i o b) 1000000000 result }
+    ensures { IsLeastTo (λ b. e ≤ reach_at P.meaning sheet.now i o b) greatest_number result }
 {
     let _count = sheet.len();
     if cap_reach::<P>(sheet, i, o, LAST) < e {
@@ -99,8 +101,8 @@ fn least_reach<P: Policy>(sheet: &Sheet, i: u32, o: u32, e: u64, a: u64) -> Opti
 fn next_change<P: Policy>(sheet: &Sheet, i: u32, o: u32, a: u64) -> Option<u64>
     requires i { i < length sheet.now.tasks }
     requires o { o < length sheet.now.tasks }
-    requires offset { a < 1000000000 }
-    ensures { IsLeastTo (IsChange P.meaning sheet.now i a o) 1000000000 result }
+    requires offset { a < greatest_number }
+    ensures { IsLeastTo (IsChange P.meaning sheet.now i a o) greatest_number result }
 {
     if o == i {
         next_own_change::<P>(sheet, i, a)
@@ -111,8 +113,8 @@ fn next_change<P: Policy>(sheet: &Sheet, i: u32, o: u32, a: u64) -> Option<u64>
 
 fn next_own_change<P: Policy>(sheet: &Sheet, i: u32, a: u64) -> Option<u64>
     requires i { i < length sheet.now.tasks }
-    requires offset { a < 1000000000 }
-    ensures { IsLeastTo (IsChange P.meaning sheet.now i a i) 1000000000 result }
+    requires offset { a < greatest_number }
+    ensures { IsLeastTo (IsChange P.meaning sheet.now i a i) greatest_number result }
 {
     let task = sheet.task(i);
     let next = task.curve.stair(a + 1 + task.jitter).until - 1 - task.jitter;
@@ -123,8 +125,8 @@ fn next_other_change<P: Policy>(sheet: &Sheet, i: u32, o: u32, a: u64) -> Option
     requires i { i < length sheet.now.tasks }
     requires o { o < length sheet.now.tasks }
     requires other { i ≢ o }
-    requires offset { a < 1000000000 }
-    ensures { IsLeastTo (IsChange P.meaning sheet.now i a o) 1000000000 result }
+    requires offset { a < greatest_number }
+    ensures { IsLeastTo (IsChange P.meaning sheet.now i a o) greatest_number result }
 {
     let stair = sheet.task(o).curve.stair(cap_reach::<P>(sheet, i, o, a));
     least_reach::<P>(sheet, i, o, stair.until, a)
@@ -135,7 +137,7 @@ fn next_other_change<P: Policy>(sheet: &Sheet, i: u32, o: u32, a: u64) -> Option
 pub fn counting<P: Policy>(sheet: &Sheet, i: u32, o: u32, a: u64) -> Counted
     requires i { i < length sheet.now.tasks }
     requires o { o < length sheet.now.tasks }
-    requires offset { a < 1000000000 }
+    requires offset { a < greatest_number }
     ensures counted { IsCounted P.meaning sheet.now i a o result.count result.change }
     ensures bound { result.count ≤ 5000000000000000 }
 {

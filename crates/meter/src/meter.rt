@@ -1,5 +1,6 @@
 //! The demand of a job as its offset and end move.
 ghost use Rattle.std.specs.Prelude.{◌≡◌, ◌≤◌, ◌<◌, ◌^◌, length, IfOk};
+ghost use Rattle.lists.specs.Limits.{greatest_number};
 ghost use Rattle.lists.specs.Searches.{IsFirstBelow};
 ghost use Rattle.preemption.specs.CutLaws.{Serves};
 ghost use Rattle.demand.specs.Demand.{need_of};
@@ -109,8 +110,8 @@ impl<'a, P: Policy, M: Preemption> Meter<'a, P, M> {
     /// of the window.
     pub fn move_to(&mut self, a: u64, x: u64)
         requires order { self.old.offset ≤ a }
-        requires offset { a < 1000000000 }
-        requires end { x ≤ 1000000000 }
+        requires offset { a < greatest_number }
+        requires end { x ≤ greatest_number }
         ensures { self.new ≡ meter_at self.old.sheet self.old.task a x }
     {
         shift::<P>(
@@ -143,7 +144,7 @@ impl<'a, P: Policy, M: Preemption> Meter<'a, P, M> {
 
     /// The least point of its task that is greater than its offset and smaller than `below`.
     pub fn next_point(&self, below: u64) -> Option<u64>
-        requires { below ≤ 1000000000 }
+        requires { below ≤ greatest_number }
         ensures { IsFirstBelow (IsPointAfter P.meaning self.now.sheet self.now.task self.now.offset) below result }
     {
         across_gap::<P>();

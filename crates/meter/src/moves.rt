@@ -1,5 +1,6 @@
 //! How places move with the offset and the end.
 ghost use Rattle.std.specs.Prelude.{◌≡◌, ◌≤◌, ◌<◌, ◌+◌, ◌*◌, ◌^◌, ℕ, length};
+ghost use Rattle.lists.specs.Limits.{greatest_number};
 ghost use Rattle.meter.specs.Places.{place_of};
 ghost use Rattle.meter.specs.Tracking.{IsTrackingAt, HasBegun, IsOpen, AreEnded, IsEndMoved, IsRecounted, AreMoved, AreRecounted, AreCounted, IsReady, IsSettled, AreSeated};
 
@@ -15,7 +16,7 @@ const FAR: u64 = 5_000_000_000;
 fn move_end<P: Policy>(sheet: &Sheet, i: u32, o: u32, x: u64, tracks: &mut Tracks)
     requires i { i < length sheet.now.tasks }
     requires o { o < length sheet.now.tasks }
-    requires end { x ≤ 1000000000 }
+    requires end { x ≤ greatest_number }
     requires tracking { IsTrackingAt P.meaning sheet.now i tracks.old }
     ensures { IsEndMoved P.meaning sheet.now i x o tracks.old tracks.new }
 {
@@ -34,7 +35,7 @@ fn move_end<P: Policy>(sheet: &Sheet, i: u32, o: u32, x: u64, tracks: &mut Track
 /// Moves the stairs that end by `x` to that end, where none begins later.
 fn rise<P: Policy>(sheet: &Sheet, i: u32, x: u64, tracks: &mut Tracks)
     requires i { i < length sheet.now.tasks }
-    requires end { x ≤ 1000000000 }
+    requires end { x ≤ greatest_number }
     requires tracking { IsTrackingAt P.meaning sheet.now i tracks.old }
     requires begun { (k : ℕ) → k < length sheet.now.tasks → HasBegun sheet.now x k (place_of tracks.old.places.items k).end }
     ensures { AreMoved P.meaning sheet.now i x tracks.old tracks.new }
@@ -50,7 +51,7 @@ fn rise<P: Policy>(sheet: &Sheet, i: u32, x: u64, tracks: &mut Tracks)
 /// Moves the stairs that begin after `x` back to that end, where none ends by it.
 fn fall<P: Policy>(sheet: &Sheet, i: u32, x: u64, tracks: &mut Tracks)
     requires i { i < length sheet.now.tasks }
-    requires end { x ≤ 1000000000 }
+    requires end { x ≤ greatest_number }
     requires tracking { IsTrackingAt P.meaning sheet.now i tracks.old }
     requires still { (k : ℕ) → k < length sheet.now.tasks → IsOpen sheet.now x k (place_of tracks.old.places.items k).end }
     ensures { AreMoved P.meaning sheet.now i x tracks.old tracks.new }
@@ -68,7 +69,7 @@ fn fall<P: Policy>(sheet: &Sheet, i: u32, x: u64, tracks: &mut Tracks)
 fn recount<P: Policy>(sheet: &Sheet, i: u32, o: u32, a: u64, tracks: &mut Tracks)
     requires i { i < length sheet.now.tasks }
     requires o { o < length sheet.now.tasks }
-    requires offset { a < 1000000000 }
+    requires offset { a < greatest_number }
     requires changes { length tracks.old.changes ≡ length sheet.now.tasks }
     requires tracking { IsTrackingAt P.meaning sheet.now i tracks.old }
     ensures { IsRecounted P.meaning sheet.now i a o tracks.old tracks.new }
@@ -88,7 +89,7 @@ fn recount<P: Policy>(sheet: &Sheet, i: u32, o: u32, a: u64, tracks: &mut Tracks
 pub fn advance<P: Policy>(sheet: &Sheet, i: u32, a: u64, b: u64, tracks: &mut Tracks)
     requires i { i < length sheet.now.tasks }
     requires order { a ≤ b }
-    requires offset { b < 1000000000 }
+    requires offset { b < greatest_number }
     requires tracking { IsTrackingAt P.meaning sheet.now i tracks.old }
     requires counted { AreCounted P.meaning sheet.now i a tracks.old.places.items tracks.old.changes }
     ensures { AreRecounted P.meaning sheet.now i b tracks.old tracks.new }
@@ -104,7 +105,7 @@ pub fn advance<P: Policy>(sheet: &Sheet, i: u32, a: u64, b: u64, tracks: &mut Tr
 /// Moves all stairs from one end to another.
 fn turn<P: Policy>(sheet: &Sheet, i: u32, from: u64, x: u64, tracks: &mut Tracks)
     requires i { i < length sheet.now.tasks }
-    requires end { x ≤ 1000000000 }
+    requires end { x ≤ greatest_number }
     requires tracking { IsTrackingAt P.meaning sheet.now i tracks.old }
     requires ended { AreEnded sheet.now from tracks.old.places.items (length sheet.now.tasks) }
     ensures { AreMoved P.meaning sheet.now i x tracks.old tracks.new }
@@ -127,8 +128,8 @@ pub fn shift<P: Policy>(
 )
     requires i { i < length sheet.now.tasks }
     requires order { from.0 ≤ a }
-    requires offset { a < 1000000000 }
-    requires end { x ≤ 1000000000 }
+    requires offset { a < greatest_number }
+    requires end { x ≤ greatest_number }
     requires before { AreSeated P.meaning sheet.now i from.0 from.1 tracks.old }
     ensures { AreSeated P.meaning sheet.now i a x tracks.new }
 {

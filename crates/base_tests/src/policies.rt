@@ -84,7 +84,7 @@ fn rows_are<P: Policy>(rt: &impl Abort, sheet: &Sheet, rows: &[Row]) {
 fn the_table(rt: HostRuntime) -> Result<(), Fail> {
     let alloc = rt.alloc();
     let sheet = make_sheet(alloc)?;
-    let names = [Fp::name(), Edf::name(), Fifo::name()];
+    let names = [Fp::NAME, Edf::NAME, Fifo::NAME];
     assert_eq!(rt; names, ["fp", "edf", "fifo"]);
     keys_are::<Fp>(&rt, alloc, &sheet, [999_999_998, 999_999_999]);
     keys_are::<Edf>(&rt, alloc, &sheet, [9, 11]);

@@ -84,11 +84,11 @@ fn kind_is<M: Preemption>(
 fn the_table(rt: HostRuntime) -> Result<(), Fail> {
     let alloc = rt.alloc();
     let names = [
-        FullCut::name(),
-        NeverCut::name(),
-        FixedCut::name(),
-        FloatingCut::name(),
-        PerTask::name(),
+        FullCut::NAME,
+        NeverCut::NAME,
+        FixedCut::NAME,
+        FloatingCut::NAME,
+        PerTask::NAME,
     ];
     assert_eq!(rt; names, ["full", "never", "fixed", "floating", "per-task"]);
     kind_is::<FullCut>(&rt, alloc, Pieces::Full, (1, 5), &FULL)?;

@@ -6,20 +6,22 @@ ghost use Rattle.policy.specs.Lawful.{edf_lawful};
 
 use crate::keys::{Cap, Key};
 use crate::policy::Policy;
-use task_sheet::{Job, PolicyKind, Sheet};
+use task_sheet::{Job, Sheet};
 
 /// Earliest deadline first: a job whose absolute deadline is earlier is more urgent.
 pub struct Edf;
 
 impl Policy for Edf {
-    ghost name = { policy_word kind.Edf };
+    const NAME: &'static str = "edf";
+
+    ghost word = { policy_word kind.Edf };
 
     ghost meaning = { edf_meaning };
 
     ghost lawful = { edf_lawful };
 
-    fn name() -> &'static str {
-        PolicyKind::Edf.word()
+    fn word() -> &'static str {
+        Self::NAME
     }
 
     fn key(sheet: &Sheet, job: &Job) -> Key {

@@ -6,20 +6,22 @@ ghost use Rattle.policy.specs.Lawful.{fifo_lawful};
 
 use crate::keys::{Cap, Key};
 use crate::policy::Policy;
-use task_sheet::{Job, PolicyKind, Sheet};
+use task_sheet::{Job, Sheet};
 
 /// First in, first out: a job that arrived earlier is more urgent.
 pub struct Fifo;
 
 impl Policy for Fifo {
-    ghost name = { policy_word kind.Fifo };
+    const NAME: &'static str = "fifo";
+
+    ghost word = { policy_word kind.Fifo };
 
     ghost meaning = { fifo_meaning };
 
     ghost lawful = { fifo_lawful };
 
-    fn name() -> &'static str {
-        PolicyKind::Fifo.word()
+    fn word() -> &'static str {
+        Self::NAME
     }
 
     fn key(_sheet: &Sheet, job: &Job) -> Key {

@@ -7,20 +7,22 @@ ghost use Rattle.policy.specs.Lawful.{fp_lawful};
 use crate::keys::{Cap, Key};
 use crate::policy::Policy;
 use lists::limits::GREATEST_NUMBER;
-use task_sheet::{Job, PolicyKind, Sheet};
+use task_sheet::{Job, Sheet};
 
 /// Fixed priority: a task of a greater priority is more urgent.
 pub struct Fp;
 
 impl Policy for Fp {
-    ghost name = { policy_word kind.Fp };
+    const NAME: &'static str = "fp";
+
+    ghost word = { policy_word kind.Fp };
 
     ghost meaning = { fp_meaning };
 
     ghost lawful = { fp_lawful };
 
-    fn name() -> &'static str {
-        PolicyKind::Fp.word()
+    fn word() -> &'static str {
+        Self::NAME
     }
 
     fn key(sheet: &Sheet, job: &Job) -> Key {

@@ -13,13 +13,16 @@ use task_sheet::{Job, Sheet};
 ///
 /// Five calls compute its meaning, and the law says what every analysis may rest on.
 pub trait Policy {
-    ghost name: { List ℕ };
+    /// The word that names the policy.
+    const NAME: &'static str;
+
+    ghost word: { List ℕ };
 
     ghost meaning: { PolicyMeaning };
 
-    /// The word that names the policy.
-    fn name() -> &'static str
-        ensures { result.now ≡ name };
+    /// The same word as `NAME`, with what it is as a clause.
+    fn word() -> &'static str
+        ensures { result.now ≡ word };
 
     /// How urgent a job is.
     fn key(sheet: &Sheet, job: &Job) -> Key

@@ -14,14 +14,16 @@ use task_sheet::{Job, Task};
 pub struct FixedCut;
 
 impl Preemption for FixedCut {
-    ghost name = { codes "fixed" };
+    const NAME: &'static str = "fixed";
+
+    ghost word = { codes "fixed" };
 
     ghost cuts = { fixed_meaning };
 
     ghost lawful = { fixed_lawful };
 
-    fn name() -> &'static str {
-        "fixed"
+    fn word() -> &'static str {
+        Self::NAME
     }
 
     fn cuttable(_task: &Task, job: &Job, s: u64) -> bool {

@@ -12,14 +12,16 @@ use task_sheet::{Job, Task};
 pub struct FloatingCut;
 
 impl Preemption for FloatingCut {
-    ghost name = { codes "floating" };
+    const NAME: &'static str = "floating";
+
+    ghost word = { codes "floating" };
 
     ghost cuts = { floating_meaning };
 
     ghost lawful = { floating_lawful };
 
-    fn name() -> &'static str {
-        "floating"
+    fn word() -> &'static str {
+        Self::NAME
     }
 
     fn cuttable(_task: &Task, job: &Job, s: u64) -> bool {

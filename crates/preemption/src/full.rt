@@ -12,14 +12,16 @@ use task_sheet::{Job, Task};
 pub struct FullCut;
 
 impl Preemption for FullCut {
-    ghost name = { codes "full" };
+    const NAME: &'static str = "full";
+
+    ghost word = { codes "full" };
 
     ghost cuts = { full_meaning };
 
     ghost lawful = { full_lawful };
 
-    fn name() -> &'static str {
-        "full"
+    fn word() -> &'static str {
+        Self::NAME
     }
 
     fn cuttable(_task: &Task, _job: &Job, _s: u64) -> bool {

@@ -12,14 +12,16 @@ use task_sheet::{Job, Task};
 pub struct NeverCut;
 
 impl Preemption for NeverCut {
-    ghost name = { codes "never" };
+    const NAME: &'static str = "never";
+
+    ghost word = { codes "never" };
 
     ghost cuts = { never_meaning };
 
     ghost lawful = { never_lawful };
 
-    fn name() -> &'static str {
-        "never"
+    fn word() -> &'static str {
+        Self::NAME
     }
 
     fn cuttable(_task: &Task, job: &Job, s: u64) -> bool {

@@ -15,14 +15,16 @@ use task_sheet::{Cut, Job, Task};
 pub struct PerTask;
 
 impl Preemption for PerTask {
-    ghost name = { codes "per-task" };
+    const NAME: &'static str = "per-task";
+
+    ghost word = { codes "per-task" };
 
     ghost cuts = { per_task_meaning };
 
     ghost lawful = { λ task ok _. per_task_lawful task ok };
 
-    fn name() -> &'static str {
-        "per-task"
+    fn word() -> &'static str {
+        Self::NAME
     }
 
     fn cuttable(task: &Task, job: &Job, s: u64) -> bool {

@@ -10,13 +10,16 @@ use task_sheet::{Job, Task};
 
 /// A kind of preemption: at which services a job can be cut, with the laws that the bounds rest on.
 pub trait Preemption {
-    ghost name: { List ℕ };
+    /// The word that names the kind.
+    const NAME: &'static str;
+
+    ghost word: { List ℕ };
 
     ghost cuts: { CutMeaning };
 
-    /// The word that names the kind.
-    fn name() -> &'static str
-        ensures { result.now ≡ name };
+    /// The same word as `NAME`, with what it is as a clause.
+    fn word() -> &'static str
+        ensures { result.now ≡ word };
 
     /// Whether a job can be preempted once it has had `s` ticks of service.
     fn cuttable(task: &Task, job: &Job, s: u64) -> bool

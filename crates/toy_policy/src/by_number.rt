@@ -11,14 +11,16 @@ use task_sheet::{Job, Sheet};
 pub struct ByNumber;
 
 impl Policy for ByNumber {
-    ghost name = { codes "by-number" };
+    const NAME: &'static str = "by-number";
+
+    ghost word = { codes "by-number" };
 
     ghost meaning = { by_number_meaning };
 
     ghost lawful = { by_number_lawful };
 
-    fn name() -> &'static str {
-        "by-number"
+    fn word() -> &'static str {
+        Self::NAME
     }
 
     fn key(_sheet: &Sheet, job: &Job) -> Key {

@@ -11,14 +11,16 @@ use task_sheet::{Job, Task};
 pub struct EvenCut;
 
 impl Preemption for EvenCut {
-    ghost name = { codes "even" };
+    const NAME: &'static str = "even";
+
+    ghost word = { codes "even" };
 
     ghost cuts = { even_meaning };
 
     ghost lawful = { λ task ok _. even_lawful task ok };
 
-    fn name() -> &'static str {
-        "even"
+    fn word() -> &'static str {
+        Self::NAME
     }
 
     fn cuttable(_task: &Task, job: &Job, s: u64) -> bool {

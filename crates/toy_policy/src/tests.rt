@@ -60,7 +60,7 @@ fn accepted(rt: HostRuntime) -> Result<(), Fail> {
     let alloc = rt.alloc();
     let sheet = make_sheet(alloc)?;
     let wanted = Verdict::Accepted(Items::new(vec![in alloc; 1, 3]?));
-    assert_eq!(rt; ByNumber::name(), "by-number");
+    assert_eq!(rt; ByNumber::NAME, "by-number");
 
     let by_task = check_cert::<ByNumber, PerTask, Unit>(alloc, &sheet, &Unit, true, CERT)?;
     assert_eq!(rt; by_task, wanted);

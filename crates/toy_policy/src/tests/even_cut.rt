@@ -92,7 +92,7 @@ fn meaning(rt: HostRuntime) -> Result<(), Fail> {
         task_row(&sheet, 2),
     ];
     assert_eq!(rt; rows, [Some((1, 1)), Some((2, 5)), Some((2, 3))]);
-    assert_eq!(rt; EvenCut::name(), "even");
+    assert_eq!(rt; EvenCut::NAME, "even");
 
     assert_job(&rt, alloc, 1, [T, T, T, T, T, T], T)?;
     assert_job(&rt, alloc, 3, [T, F, T, T, T, T], T)?;

@@ -1,7 +1,7 @@
 //! Worked sheets with their best certificates, and the refusals.
 ghost use Rattle.std.specs.Prelude.{◌≤◌, ◌<◌, length};
 
-use crate::sheets::{EIGHT_TASKS, TWO_DEADLINES, sheet_of};
+use crate::sheets::{EIGHT_TASKS, JITTER, JITTER_BLOCKING, JITTER_POINTS, TWO_DEADLINES, sheet_of};
 use certificate::{Cert, read_cert};
 use policy::{Edf, Fifo, Fp};
 use preemption::PerTask;
@@ -35,7 +35,7 @@ end
 /// A sheet, a horizon, and the text of its best certificate, or the cause why there is none.
 type Row = (&'static str, u64, Result<&'static str, AnalyseRefusal>);
 
-const BEST: [Row; 10] = [
+const BEST: [Row; 14] = [
     (
         "policy = 'fp'
 task = [{ name = 'a', cost = 2, deadline = 5, priority = 1, period = 5 }]",
@@ -101,9 +101,30 @@ task = [{ name = 'a', cost = 2, deadline = 10, priority = 1, period = 10, preemp
         Ok("poet-cert 1\ntasks 1\ntask 0 4 4 1\np 0 3\nend\n"),
     ),
     (EIGHT_TASKS, 1_000_000, Ok(OF_EIGHT_TASKS)),
+    (
+        JITTER,
+        100,
+        Ok("poet-cert 1\ntasks 1\ntask 0 2 5 1\np 0 2\nend\n"),
+    ),
+    (
+        JITTER_POINTS,
+        7,
+        Ok("poet-cert 1\ntasks 1\ntask 0 4 7 2\np 0 2\np 1 4\nend\n"),
+    ),
+    (
+        JITTER_BLOCKING,
+        100,
+        Ok("poet-cert 1\ntasks 2\ntask 0 6 8 1\np 0 6\ntask 1 4 4 1\np 0 2\nend\n"),
+    ),
+    (
+        "policy = 'fp'
+task = [{ name = 'a', cost = 1, deadline = 1, priority = 1, jitter = 999999999, period = 1000000000 }]",
+        1_000_000_000,
+        Ok("poet-cert 1\ntasks 1\ntask 0 1 1000000000 1\np 0 1\nend\n"),
+    ),
 ];
 
-const REFUSED: [Row; 2] = [
+const REFUSED: [Row; 5] = [
     (
         "policy = 'fp'
 task = [
@@ -114,6 +135,31 @@ task = [
         Err(AnalyseRefusal::NoBound {
             task: 1,
             part: Part::Window,
+        }),
+    ),
+    (
+        JITTER_POINTS,
+        3,
+        Err(AnalyseRefusal::NoBound {
+            task: 0,
+            part: Part::Window,
+        }),
+    ),
+    (
+        JITTER_POINTS,
+        6,
+        Err(AnalyseRefusal::NoBound {
+            task: 0,
+            part: Part::Bound,
+        }),
+    ),
+    (
+        "policy = 'fp'
+task = [{ name = 'a', cost = 1, deadline = 1, priority = 1, jitter = 1000000000, period = 1000000000 }]",
+        1_000_000_000,
+        Err(AnalyseRefusal::NoBound {
+            task: 0,
+            part: Part::Bound,
         }),
     ),
     (

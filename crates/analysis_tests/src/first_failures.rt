@@ -1,9 +1,9 @@
-//! Worked certificates, of one task and of two under their deadlines, and the first condition that
-//! each fails.
-use crate::sheets::{TWO_DEADLINES, sheet_of};
+//! Worked certificates, of one task, of two under their deadlines, and of tasks with jitters, and the
+//! first condition that each fails.
+use crate::sheets::{JITTER, JITTER_BLOCKING, JITTER_POINTS, TWO_DEADLINES, sheet_of};
 use certificate::read_cert;
 use conditions::{Cond, first_failed};
-use policy::{Edf, Fp, Policy};
+use policy::{Edf, Fifo, Fp, Policy};
 use preemption::PerTask;
 use std::alloc::Global;
 use std::process::Abort;
@@ -98,6 +98,60 @@ const OF_TWO_DEADLINES: [Row; 3] = [
     ),
 ];
 
+const OF_JITTER: [Row; 3] = [
+    (
+        "poet-cert 1\ntasks 1\ntask 0 2 5 1\np 0 2\nend\n",
+        true,
+        None,
+    ),
+    (
+        "poet-cert 1\ntasks 1\ntask 0 2 2 1\np 0 2\nend\n",
+        false,
+        Some((Cond::K2, Some(0), None)),
+    ),
+    (
+        "poet-cert 1\ntasks 1\ntask 0 2 4 1\np 0 2\nend\n",
+        false,
+        Some((Cond::K6, Some(0), Some(0))),
+    ),
+];
+
+const OF_JITTER_POINTS: [Row; 3] = [
+    (
+        "poet-cert 1\ntasks 1\ntask 0 4 7 2\np 0 2\np 1 4\nend\n",
+        false,
+        None,
+    ),
+    (
+        "poet-cert 1\ntasks 1\ntask 0 4 7 1\np 0 2\nend\n",
+        false,
+        Some((Cond::K5, Some(0), Some(0))),
+    ),
+    (
+        "poet-cert 1\ntasks 1\ntask 0 4 6 2\np 0 2\np 1 4\nend\n",
+        false,
+        Some((Cond::K6, Some(0), Some(1))),
+    ),
+];
+
+const OF_JITTER_BLOCKING: [Row; 3] = [
+    (
+        "poet-cert 1\ntasks 2\ntask 0 6 8 1\np 0 6\ntask 1 4 4 1\np 0 2\nend\n",
+        true,
+        None,
+    ),
+    (
+        "poet-cert 1\ntasks 2\ntask 0 5 8 1\np 0 6\ntask 1 4 4 1\np 0 2\nend\n",
+        false,
+        Some((Cond::K3, Some(0), None)),
+    ),
+    (
+        "poet-cert 1\ntasks 2\ntask 0 6 8 1\np 0 6\ntask 1 4 3 1\np 0 2\nend\n",
+        false,
+        Some((Cond::K8, Some(1), Some(0))),
+    ),
+];
+
 /// The first condition that fails of the certificate of this text.
 fn judged<P: Policy>(
     alloc: Global,
@@ -129,5 +183,8 @@ fn first_conditions_that_fail(rt: HostRuntime) -> Result<(), Fail> {
     let alloc = rt.alloc();
     assert_rows::<Fp>(&rt, alloc, ONE_TASK, &OF_ONE_TASK)?;
     assert_rows::<Fp>(&rt, alloc, SHORT_DEADLINE, &OF_A_SHORT_DEADLINE)?;
-    assert_rows::<Edf>(&rt, alloc, TWO_DEADLINES, &OF_TWO_DEADLINES)
+    assert_rows::<Edf>(&rt, alloc, TWO_DEADLINES, &OF_TWO_DEADLINES)?;
+    assert_rows::<Fp>(&rt, alloc, JITTER, &OF_JITTER)?;
+    assert_rows::<Fp>(&rt, alloc, JITTER_POINTS, &OF_JITTER_POINTS)?;
+    assert_rows::<Fifo>(&rt, alloc, JITTER_BLOCKING, &OF_JITTER_BLOCKING)
 }

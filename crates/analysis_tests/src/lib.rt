@@ -1,14 +1,16 @@
-//! Tests of the analysis, over small sheets, certificates and runs that were worked out by hand.
+//! Tests of the analysis, over small sheets and certificates that were worked out by hand.
 #![tactic(auto)]
 
 #[cfg(test)]
 mod best_certs;
 #[cfg(test)]
-mod compliance;
+mod bounds;
 #[cfg(test)]
 mod first_failures;
 #[cfg(test)]
 mod laws;
+#[cfg(test)]
+mod meters;
 #[cfg(test)]
 mod needs;
 #[cfg(test)]

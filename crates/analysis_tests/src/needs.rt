@@ -1,7 +1,7 @@
-//! Worked numbers of demand: two of eight tasks, and caps below 0.
-use crate::sheets::{EIGHT_TASKS, sheet_of};
+//! Worked numbers of demand: two of eight tasks, caps below 0, and jitters.
+use crate::sheets::{EIGHT_TASKS, JITTER, JITTER_BLOCKING, JITTER_POINTS, sheet_of};
 use demand::{blocking, need, others, own, rest, window_need};
-use policy::{Edf, Fp};
+use policy::{Edf, Fifo, Fp};
 use preemption::PerTask;
 use std::test::Fail;
 
@@ -48,5 +48,53 @@ fn caps_below_zero(rt: HostRuntime) -> Result<(), Fail> {
         others::<Edf>(&sheet, 1, 0, 90),
     ];
     assert_eq!(rt; found.as_slice(), [0, 0, 3, 10, 9].as_slice());
+    Ok(())
+}
+
+#[test]
+fn one_task_with_a_jitter(rt: HostRuntime) -> Result<(), Fail> {
+    for (text, wanted) in [
+        // Within 2 ticks one job can be released, within 3, so up to offset 2, it is two jobs.
+        (JITTER, [2, 2, 2, 2, 4]),
+        // Within 2 ticks, so up to offset 1, two jobs can be released.
+        (JITTER_POINTS, [2, 4, 2, 4, 4]),
+    ] {
+        let sheet = sheet_of(rt.alloc(), text)?;
+        assert_eq!(rt; sheet.len(), 1);
+        let found = [
+            window_need::<Fp, PerTask>(&sheet, 0, 1),
+            window_need::<Fp, PerTask>(&sheet, 0, 2),
+            need::<Fp, PerTask>(&sheet, 0, 0, 2),
+            own::<PerTask>(&sheet, 0, 1),
+            own::<PerTask>(&sheet, 0, 2),
+        ];
+        assert_eq!(rt; found.as_slice(), wanted.as_slice(), "{text}");
+    }
+    Ok(())
+}
+
+#[test]
+fn jitter_blocks(rt: HostRuntime) -> Result<(), Fail> {
+    let sheet = sheet_of(rt.alloc(), JITTER_BLOCKING)?;
+    assert_eq!(rt; sheet.len(), 2);
+    let of_u = [
+        window_need::<Fifo, PerTask>(&sheet, 0, 5),
+        window_need::<Fifo, PerTask>(&sheet, 0, 6),
+        // A job of `v` that arrives up to a tick later can have begun.
+        blocking::<Fifo, PerTask>(&sheet, 0, 1),
+        blocking::<Fifo, PerTask>(&sheet, 0, 2),
+        need::<Fifo, PerTask>(&sheet, 0, 0, 6),
+    ];
+    assert_eq!(rt; of_u.as_slice(), [6, 6, 2, 0, 6].as_slice());
+    let of_v = [
+        window_need::<Fifo, PerTask>(&sheet, 1, 4),
+        blocking::<Fifo, PerTask>(&sheet, 1, 0),
+        // A job of `u` that arrived up to 2 ticks before `v` can be released with it; at most one.
+        others::<Fifo>(&sheet, 1, 0, 0),
+        others::<Fifo>(&sheet, 1, 0, 2),
+        need::<Fifo, PerTask>(&sheet, 1, 0, 2),
+    ];
+    assert_eq!(rt; of_v.as_slice(), [4, 0, 1, 1, 2].as_slice());
+    assert_eq!(rt; rest::<PerTask>(&sheet, 1), 2);
     Ok(())
 }

@@ -1,6 +1,6 @@
-//! Worked offsets of two tasks under their deadlines.
-use crate::sheets::{TWO_DEADLINES, sheet_of};
-use policy::{Edf, Fp};
+//! Worked offsets of two tasks under their deadlines, and of tasks with jitters.
+use crate::sheets::{JITTER, JITTER_BLOCKING, JITTER_POINTS, TWO_DEADLINES, sheet_of};
+use policy::{Edf, Fifo, Fp};
 use search_space::{compared, is_point, is_same, next_point};
 use std::test::Fail;
 
@@ -38,5 +38,23 @@ fn two_deadlines(rt: HostRuntime) -> Result<(), Fail> {
         next.as_slice(),
         [Some(2), None, Some(2), Some(6)].as_slice()
     );
+    Ok(())
+}
+
+#[test]
+fn jitters(rt: HostRuntime) -> Result<(), Fail> {
+    for (text, wanted) in [(JITTER, Some(2)), (JITTER_POINTS, Some(1))] {
+        let sheet = sheet_of(rt.alloc(), text)?;
+        assert_eq!(rt; sheet.len(), 1);
+        assert_eq!(rt; next_point::<Fp>(&sheet, 0, 0, 4), wanted, "{text}");
+    }
+    let sheet = sheet_of(rt.alloc(), JITTER_BLOCKING)?;
+    assert_eq!(rt; sheet.len(), 2);
+    let next = [
+        // A second job of `u` counts 2 ticks before the period is over, for `u` and for `v`.
+        next_point::<Fifo>(&sheet, 0, 0, 100),
+        next_point::<Fifo>(&sheet, 1, 0, 100),
+    ];
+    assert_eq!(rt; next.as_slice(), [Some(8), Some(8)].as_slice());
     Ok(())
 }

@@ -12,6 +12,24 @@ task = [
     { name = 'b', cost = 2, deadline = 6, period = 6 },
 ]";
 
+/// A job is released up to 3 ticks after its arrival.
+pub const JITTER: &str = "
+policy = 'fp'
+task = [{ name = 'a', cost = 2, deadline = 5, priority = 1, jitter = 3, period = 5 }]";
+
+/// Two jobs can be released one tick after the other.
+pub const JITTER_POINTS: &str = "
+policy = 'fp'
+task = [{ name = 'a', cost = 2, deadline = 5, priority = 1, jitter = 4, period = 5 }]";
+
+/// A job of `v` that arrives after one of `u` can run first, and is not preempted.
+pub const JITTER_BLOCKING: &str = "
+policy = 'fifo'
+task = [
+    { name = 'u', cost = 1, deadline = 10, jitter = 2, period = 10 },
+    { name = 'v', cost = 3, deadline = 10, period = 10, preemption = 'never' },
+]";
+
 /// Eight tasks, in microseconds; the third comes in bursts of two.
 pub const EIGHT_TASKS: &str = "
 policy = 'fp'

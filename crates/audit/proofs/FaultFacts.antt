@@ -9,14 +9,37 @@ use Rattle.run_model.specs.declared.run.Run.{Run}
 use Rattle.run_model.specs.declared.run.Tick.{Tick}
 use Rattle.run_model.specs.declared.run.Tick.TheVariants.{Off, Idle, Runs}
 use Rattle.run_model.specs.Runs.{job_at, tick_at}
-use Rattle.schedule_laws.specs.Tests.{AreUncrowded, may_run, may_be_at, is_valid_at, is_crowded, is_short}
-use Rattle.schedule_laws.proofs.TestFacts.{short_from}
+use Rattle.schedule_laws.specs.Compliance.{IsReleased}
+use Rattle.schedule_laws.specs.Tests.{AreUncrowded, may_run, may_be_at, is_valid_at, is_release_broken, is_crowded, is_short}
+use Rattle.schedule_laws.proofs.TestFacts.{short_from, released_from}
 use Rattle.windows.specs.Crowds.{IsNoLater, IsFirstCrowded}
 use Rattle.audit.specs.declared.verdict.Fault.{Fault}
 use Rattle.audit.specs.declared.verdict.Rule.TheVariants as rule
-use Rattle.audit.specs.Faults.{fault_at, shortage, invalid_at, last_arrival, invalid_in, crowded_in, short_in}
+use Rattle.audit.specs.Faults.{fault_at, unreleased, shortage, unreleased_in, invalid_at, last_arrival, invalid_in, crowded_in, short_in}
 use Rattle.audit.specs.Premises.{AreValid}
 use Rattle.audit.proofs.SearchFacts.{all_hold, each_holds, first_fails, found_none, none_found, found_some}
+
+-- releases
+
+pub unreleased_some : (sheet : SheetParts) (run : Run) (k : ℕ) →
+    IsFirstBelow (λ i. is_release_broken sheet run i ≡ true) (length run.jobs) (Some k) →
+    unreleased_in sheet run ≡ Some (unreleased k)
+unfolding unreleased_in
+unreleased_some sheet run k first =
+    first_fails (λ i. not (is_release_broken sheet run i)) unreleased (length run.jobs) k first.0 (not_from_true (is_release_broken sheet run k) first.1)
+    (λ i b. not_from_false (is_release_broken sheet run i) (false_from_ne_true (is_release_broken sheet run i) (first.2 i b)))
+
+pub unreleased_none : (sheet : SheetParts) (run : Run) →
+    IsFirstBelow (λ i. is_release_broken sheet run i ≡ true) (length run.jobs) None → unreleased_in sheet run ≡ None
+unfolding unreleased_in
+unreleased_none sheet run none =
+    all_hold (λ i. not (is_release_broken sheet run i)) unreleased (length run.jobs)
+    (λ i b. not_from_false (is_release_broken sheet run i) (false_from_ne_true (is_release_broken sheet run i) (none i b)))
+
+pub all_released : (sheet : SheetParts) (run : Run) →
+    IsFirstBelow (λ i. is_release_broken sheet run i ≡ true) (length run.jobs) None → (k : ℕ) → k < length run.jobs →
+    IsReleased sheet run k
+all_released sheet run none k b = released_from sheet run k (false_from_ne_true (is_release_broken sheet run k) (none k b))
 
 -- valid ticks
 

@@ -5,6 +5,7 @@ pub mod ServedFacts
 pub mod ResponseFacts
 pub mod ReadFacts
 pub mod OrderFacts
+pub mod ReleaseFacts
 pub mod UndoneFacts
 pub mod SegmentFacts
 pub mod WaitFacts

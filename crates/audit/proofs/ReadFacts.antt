@@ -33,7 +33,6 @@ small_from run h = record {
   few_jobs = h.few_jobs;
   few_ticks = h.few_ticks;
   early = λ k b. (All-get_or IsJob run.jobs k no_job b h.jobs).arrival;
-  released = λ k b. (All-get_or IsJob run.jobs k no_job b h.jobs).released;
   named = λ t k is. elim (cases_lt t (length run.ticks)) [
     | inl b ↦ named_tick (length run.jobs) (tick_at run t) k (All-get_or (IsTickOf (length run.jobs)) run.ticks t Off b h.ticks) is
     | inr past ↦ absurd (not_off k (tick_at run t) is (past_ticks run t past))

@@ -1,6 +1,8 @@
 -- The one job that may be inside a segment.
 use Rattle.std.proofs.Common.{◌≡◌, ◌≢◌, ℕ, ◌+◌, ◌<◌, Bool, true, false, length, Option, Some, None, refl, sym, ◌∙◌, ap, subst, inl, inr, add-one}
 use Rattle.std.proofs.lemmas.Bool.{cases_eq, both_ways}
+use Rattle.lists.specs.Searches.{OnlyFails}
+use Rattle.lists.proofs.SearchFacts.{only_same}
 use Rattle.task_sheet.specs.SheetParts.{SheetParts}
 use Rattle.task_sheet.specs.declared.tasks.Task.{Task}
 use Rattle.task_sheet.specs.Sheets.{task_at, IsTask, IsValidSheet}
@@ -15,12 +17,7 @@ use Rattle.schedule_laws.specs.Compliance.{can_cut}
 use Rattle.schedule_laws.specs.Tests.{is_segment_broken}
 use Rattle.schedule_laws.proofs.TestFacts.{segment_from, segment_to}
 use Rattle.audit.specs.Premises.{AreFitting}
-use Rattle.audit.specs.TickRules.{IsTick, OnlyFails, Leaves}
-
-only_same : (test new : ℕ → Bool) (n : ℕ) (x : Option ℕ) → ((k : ℕ) → k < n → new k ≡ test k) → OnlyFails test n x →
-    OnlyFails new n x
-only_same test new n None same h = λ k b. same k b ∙ h k b
-only_same test new n (Some j) same h = (h.0, same j h.0 ∙ h.1, (λ k b ne. same k b ∙ h.2 k b ne))
+use Rattle.audit.specs.TickRules.{IsTick, Leaves}
 
 -- where another may not be inside
 others_pass : (test : ℕ → Bool) (n : ℕ) (x : Option ℕ) (j k : ℕ) → OnlyFails test n x → (Leaves (Runs j) x → ⊥) →

@@ -34,9 +34,14 @@ front_some run served order o i ordered b past left = (
       elim (cases_lt at.place i) [
         | inl c ↦ absurd (past.done at.place c (subst (IsLeft run served o) (sym at.is) other))
         | inr c ↦
-            let mine = (ordered.listed i b).tick in
-            let tick = (ordered.listed at.place at.within).tick in
-            omega (arith, mine, tick, ordered.ascending i at.place c at.within, ap (λ k. (job_at run k).arrival) at.is)
+            let mine = ordered.listed i b in
+            let its = ordered.listed at.place at.within in
+            let arrival = ap (λ k. (job_at run k).arrival) at.is in
+            let release = ap (λ k. (job_at run k).release) at.is in
+            elim (ordered.ascending i at.place c at.within) [
+              | inl less ↦ inl (omega (arith, mine.tick, its.tick, less, arrival))
+              | inr equal ↦ inr (omega (arith, mine.tick, its.tick, equal.0, arrival), omega (arith, mine.release, its.release, equal.1, release))
+            ]
       ]),
 )
 

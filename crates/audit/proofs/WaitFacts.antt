@@ -1,5 +1,5 @@
 -- Which jobs are pending, by the first undone job of each task.
-use Rattle.std.proofs.Common.{◌≡◌, ℕ, ◌+◌, ◌<◌, ◌≤◌, true, false, List, Option, Some, None, sym, ◌∙◌, ap, inl, inr, arith}
+use Rattle.std.proofs.Common.{◌≡◌, ℕ, ◌+◌, ◌<◌, ◌≤◌, true, false, length, List, Option, Some, None, sym, ◌∙◌, ap, inl, inr, arith}
 use Rattle.std.proofs.lemmas.Bool.{cases_Bool, cases_lt, both_ways}
 use Rattle.task_sheet.specs.SheetParts.{SheetParts}
 use Rattle.policy.specs.declared.keys.Key.{Key}
@@ -15,7 +15,8 @@ use Rattle.preemption.specs.CutMeaning.{CutMeaning}
 use Rattle.schedule_laws.specs.Compliance.{can_cut}
 use Rattle.schedule_laws.specs.Tests.{AreOf, is_idle_broken, is_priority_broken}
 use Rattle.schedule_laws.proofs.TestFacts.{idle_from, idle_to, priority_from, priority_to}
-use Rattle.audit.specs.Premises.{IsSmall}
+use Rattle.audit.specs.Premises.{AreReleased}
+use Rattle.audit.specs.ArrivalOrder.{IsNoLater}
 use Rattle.audit.specs.ServiceCounts.{IsServed}
 use Rattle.audit.specs.TickRules.{IsTick, IsListed, IsWaiting, IsOvertaken, HasRelease, IsMoreUrgent}
 use Rattle.audit.specs.UndoneJobs.{IsLeft, IsFront}
@@ -40,14 +41,23 @@ pub front_waits : (run : Run) (t : ℕ) (served : List ℕ) (o : ℕ) (front : O
 front_waits run t served o None s h released = absurd released
 front_waits run t served o (Some f) s h released = record { job = f; waits = left_waits run t served o f s h.0 released }
 
--- where the front of a task has not been released, none of its jobs is pending, since each is released at its arrival
-pub none_waits : (run : Run) → IsSmall run → (t : ℕ) (served : List ℕ) (o : ℕ) (front : Option ℕ) →
+-- what comes first of a task arrives and is released no later than the others
+first_of_task : (run : Run) → AreReleased run → (f n : ℕ) → f < length run.jobs → n < length run.jobs →
+    (job_at run f).task ≡ (job_at run n).task →
+    IsNoLater (job_at run f).arrival (job_at run f).release (job_at run n).arrival (job_at run n).release →
+    ((job_at run f).arrival ≤ (job_at run n).arrival) × ((job_at run f).release ≤ (job_at run n).release)
+first_of_task run released f n b c same (inl less) = (omega arith, released.order f n b c same less)
+first_of_task run released f n b c same (inr equal) = (omega (arith, equal.0), equal.1)
+
+-- where the front of a task has not been released, none of its jobs is pending
+pub none_waits : (run : Run) → AreReleased run → (t : ℕ) (served : List ℕ) (o : ℕ) (front : Option ℕ) →
     IsServed run t served → IsFront run served o front → (HasRelease run t front → ⊥) → (k : ℕ) →
     (job_at run k).task ≡ o → IsPending run k t → ⊥
-none_waits run small t served o None s h late k task waits = h k (waits_left run t served o k s task waits)
-none_waits run small t served o (Some f) s h late k task waits =
+none_waits run released t served o None s h late k task waits = h k (waits_left run t served o k s task waits)
+none_waits run released t served o (Some f) s h late k task waits =
     let left = h.0 in
-    late (omega (arith, h.1 k (waits_left run t served o k s task waits), waits.released, small.released k waits.listed, small.released f left.listed))
+    let first = first_of_task run released f k left.listed waits.listed (left.task ∙ sym task) (h.1 k (waits_left run t served o k s task waits)) in
+    late (omega (arith, first.1, waits.released))
 
 -- a front that is more urgent is pending and more urgent
 pub front_urgent : (p : PolicyMeaning) (sheet : SheetParts) (run : Run) (key : Key) (t : ℕ) (served : List ℕ) (o : ℕ) (front : Option ℕ) →
@@ -57,19 +67,19 @@ front_urgent p sheet run key t served o None s h urgent = absurd urgent
 front_urgent p sheet run key t served o (Some f) s h urgent = record { job = f; waits = left_waits run t served o f s h.0 urgent.0; urgent = urgent.1 }
 
 -- where the front of a task is not more urgent, none of its jobs is
-pub none_urgent : (p : PolicyMeaning) (sheet : SheetParts) (run : Run) → IsSmall run →
+pub none_urgent : (p : PolicyMeaning) (sheet : SheetParts) (run : Run) → AreReleased run →
     (key : Key) (t : ℕ) (served : List ℕ) (o : ℕ) (front : Option ℕ) → IsLawfulPolicy p sheet → AreOf sheet run →
     IsServed run t served → IsFront run served o front → (IsMoreUrgent p sheet run key t front → ⊥) →
     (k : ℕ) → (job_at run k).task ≡ o → IsPending run k t → key_le key (p.key sheet (job_at run k)) ≡ false → ⊥
-none_urgent p sheet run small key t served o None lawful of s h late k task waits urgent = h k (waits_left run t served o k s task waits)
-none_urgent p sheet run small key t served o (Some f) lawful of s h late k task waits urgent =
+none_urgent p sheet run released key t served o None lawful of s h late k task waits urgent = h k (waits_left run t served o k s task waits)
+none_urgent p sheet run released key t served o (Some f) lawful of s h late k task waits urgent =
     let left = h.0 in
-    let first : (job_at run f).arrival ≤ (job_at run k).arrival = h.1 k (waits_left run t served o k s task waits) in
     let same : (job_at run f).task ≡ (job_at run k).task = left.task ∙ sym task in
+    let first = first_of_task run released f k left.listed waits.listed same (h.1 k (waits_left run t served o k s task waits)) in
     elim (cases_Bool (key_le key (p.key sheet (job_at run f)))) [
-      | inr f_urgent ↦ late (omega (arith, first, waits.released, small.released k waits.listed, small.released f left.listed), f_urgent)
+      | inr f_urgent ↦ late (omega (arith, first.1, waits.released), f_urgent)
       | inl least ↦
-          let order = lawful.in_order (job_at run f) (job_at run k) (of f left.listed) (of k waits.listed) same first in
+          let order = lawful.in_order (job_at run f) (job_at run k) (of f left.listed) (of k waits.listed) same first.0 in
           both_ways (key_le key (p.key sheet (job_at run k))) urgent (key_le_trans key (p.key sheet (job_at run f)) (p.key sheet (job_at run k)) least order)
     ]
 

@@ -12,7 +12,7 @@ use Rattle.run_model.specs.Runs.{job_at, tick_at}
 use Rattle.audit.specs.declared.verdict.Fault.{Fault}
 use Rattle.audit.specs.declared.verdict.Rule.{Rule}
 use Rattle.audit.specs.declared.verdict.Rule.TheVariants as rule
-use Rattle.schedule_laws.specs.Tests.{does_fit, may_run, is_crowded, is_short, is_idle_broken, is_segment_broken, is_priority_broken}
+use Rattle.schedule_laws.specs.Tests.{does_fit, is_release_broken, may_run, is_crowded, is_short, is_idle_broken, is_segment_broken, is_priority_broken}
 
 -- a rule that job k breaks, at tick t
 abbrev pub fault_at : Rule → ℕ → ℕ → Fault
@@ -25,6 +25,14 @@ unfit k = record { rule = rule.Fit; job = Some k; tick = None }
 -- the first job that does not fit
 unfoldable pub unfit_in : CutMeaning → SheetParts → Run → Option Fault
 unfit_in m sheet run = first_below (λ k. must (does_fit m sheet run k) (unfit k)) (length run.jobs)
+
+-- job k is not released as its task allows
+abbrev pub unreleased : ℕ → Fault
+unreleased k = record { rule = rule.Release; job = Some k; tick = None }
+
+-- the first job that is not
+unfoldable pub unreleased_in : SheetParts → Run → Option Fault
+unreleased_in sheet run = first_below (λ k. must (not (is_release_broken sheet run k)) (unreleased k)) (length run.jobs)
 
 -- the tick is at fault where it runs a job that may not run at t
 abbrev pub invalid_at : Run → ℕ → Tick → Option Fault
@@ -67,4 +75,4 @@ priority_in p m sheet run = found_in rule.Priority (is_priority_broken p m sheet
 -- the first rule that the run breaks, at its first place
 abbrev pub first_broken : PolicyMeaning → CutMeaning → (ℕ → ℕ) → SheetParts → Run → Option Fault
 first_broken p m sbf sheet run =
-    first_of (unfit_in m sheet run) (first_of (invalid_in run) (first_of (crowded_in sheet run) (first_of (short_in sbf run) (first_of (idle_in run) (first_of (segment_in m sheet run) (priority_in p m sheet run))))))
+    first_of (unfit_in m sheet run) (first_of (unreleased_in sheet run) (first_of (invalid_in run) (first_of (crowded_in sheet run) (first_of (short_in sbf run) (first_of (idle_in run) (first_of (segment_in m sheet run) (priority_in p m sheet run)))))))

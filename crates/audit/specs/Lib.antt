@@ -4,6 +4,7 @@ pub mod Verdicts
 pub mod Premises
 pub mod ServiceCounts
 pub mod ArrivalOrder
+pub mod Releases
 pub mod UndoneJobs
 pub mod TickRules
 pub mod CutSums

@@ -40,11 +40,6 @@ abbrev pub IsMoreUrgent : PolicyMeaning → SheetParts → Run → Key → ℕ �
 IsMoreUrgent p sheet run key t None = ⊥
 IsMoreUrgent p sheet run key t (Some k) = ((job_at run k).release ≤ t) × (key_le key (p.key sheet (job_at run k)) ≡ false)
 
--- of the first n jobs only this one, if any, fails the test
-abbrev pub OnlyFails : (ℕ → Bool) → ℕ → Option ℕ → Type 0
-OnlyFails test n None = (k : ℕ) → k < n → test k ≡ true
-OnlyFails test n (Some j) = (j < n) × (test j ≡ false) × ((k : ℕ) → k < n → k ≢ j → test k ≡ true)
-
 -- the tick is supplied and does not run the job, if there is one
 abbrev pub Leaves : Tick → Option ℕ → Type 0
 Leaves Off job = ⊥

@@ -4,7 +4,7 @@ use Rattle.run_model.specs.declared.run.Run.{Run}
 use Rattle.run_model.specs.Runs.{job_at}
 use Rattle.audit.specs.declared.arrivals.Arrival.{Arrival}
 use Rattle.audit.specs.declared.undone.UndoneJobs.{UndoneJobs}
-use Rattle.audit.specs.ArrivalOrder.{arrival_at, IsOrder}
+use Rattle.audit.specs.ArrivalOrder.{arrival_at, IsNoLater, IsOrder}
 use Rattle.audit.specs.ServiceCounts.{IsServed}
 
 abbrev pub served_at : List ℕ → ℕ → ℕ
@@ -16,10 +16,11 @@ pub record IsLeft (run : Run) (served : List ℕ) (o k : ℕ) : Type 0 where
   pub task : (job_at run k).task ≡ o
   pub not_done : served_at served k < (job_at run k).cost
 
--- the job of task o that is left and arrived first; None exactly where none is left
+-- the job of task o that is left and comes first by its arrival, then by its release; None exactly where none is left
 abbrev pub IsFront : Run → List ℕ → ℕ → Option ℕ → Type 0
 IsFront run served o None = (n : ℕ) → IsLeft run served o n → ⊥
-IsFront run served o (Some f) = IsLeft run served o f × ((n : ℕ) → IsLeft run served o n → (job_at run f).arrival ≤ (job_at run n).arrival)
+IsFront run served o (Some f) =
+    IsLeft run served o f × ((n : ℕ) → IsLeft run served o n → IsNoLater (job_at run f).arrival (job_at run f).release (job_at run n).arrival (job_at run n).release)
 
 -- no job of task o is left before this place
 pub record AreDoneBefore (run : Run) (served : List ℕ) (order : List Arrival) (o place : ℕ) : Type 0 where

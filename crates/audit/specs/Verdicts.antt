@@ -1,11 +1,10 @@
 -- The verdict on a run.
-use Rattle.std.specs.Prelude.{◌≡◌, ◌↔◌, ◌<◌, ℕ, List, length, Option, Some, None}
+use Rattle.std.specs.Prelude.{◌≡◌, ◌↔◌, ℕ, List, length, Option, Some, None}
 use Rattle.task_sheet.specs.SheetParts.{SheetParts}
 use Rattle.task_sheet.specs.Sheets.{IsValidSheet}
 use Rattle.policy.specs.PolicyMeaning.{PolicyMeaning}
 use Rattle.preemption.specs.CutMeaning.{CutMeaning}
 use Rattle.run_model.specs.declared.run.Run.{Run}
-use Rattle.run_model.specs.Runs.{job_at}
 use Rattle.schedule_laws.specs.Compliance.{IsCompliant}
 use Rattle.audit.specs.declared.verdict.Fault.{Fault}
 use Rattle.audit.specs.declared.verdict.Seen.{Seen}
@@ -28,9 +27,8 @@ abbrev pub TellsCompliance : PolicyMeaning → CutMeaning → (ℕ → ℕ) → 
 TellsCompliance p m sbf sheet run (Compliant seen) = IsCompliant p m sbf sheet run
 TellsCompliance p m sbf sheet run (Broken of job tick) = IsCompliant p m sbf sheet run → ⊥
 
--- a run whose jobs are released at their arrivals breaks no rule exactly where it complies
+-- a run breaks no rule exactly where it complies
 abbrev pub VerdictDecides : PolicyMeaning → CutMeaning → (ℕ → ℕ) → Type 0
 VerdictDecides p m sbf =
-    (sheet : SheetParts) → IsValidSheet sheet → (run : Run) → ((k : ℕ) → k < length run.jobs →
-    (job_at run k).release ≡ (job_at run k).arrival) →
+    (sheet : SheetParts) → IsValidSheet sheet → (run : Run) →
     (first_broken p m sbf sheet run ≡ None) ↔ IsCompliant p m sbf sheet run

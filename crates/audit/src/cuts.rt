@@ -1,5 +1,6 @@
 //! Where jobs can be cut.
 ghost use Rattle.std.specs.Prelude.{◌≡◌, ◌<◌, ◌≤◌, IfOk, length, sum, true};
+ghost use Rattle.lists.specs.Limits.{greatest_number};
 ghost use Rattle.task_sheet.specs.Sheets.{IsTask, task_at};
 ghost use Rattle.preemption.specs.CutLaws.{Serves};
 ghost use Rattle.run_model.specs.Runs.{job_at};
@@ -14,7 +15,7 @@ use task_sheet::{Cut, Job, Sheet, Task};
 
 /// The sums of the first segments: of none, of one, and so on to all.
 fn sums_of(alloc: Global, segments: &[u64]) -> Result<Vec<u64>, AllocError>
-    requires { sum segments.now ≤ 1000000000 }
+    requires { sum segments.now ≤ greatest_number }
     ensures { IfOk result (λ v. v.items ≡ sums_from 0 segments.now) }
 {
     let mut sums = Vec::new(alloc);

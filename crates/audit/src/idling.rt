@@ -5,7 +5,7 @@ ghost use Rattle.run_model.specs.Runs.{tick_at};
 ghost use Rattle.schedule_laws.specs.Tests.{AreOf, is_idle_broken};
 ghost use Rattle.audit.specs.TickRules.{HasRelease, IsListed, IsWaiting, IsTick};
 ghost use Rattle.audit.specs.UndoneJobs.{AreUndone};
-ghost use Rattle.audit.specs.Premises.{IsSmall};
+ghost use Rattle.audit.specs.Premises.{IsSmall, AreReleased};
 
 use crate::undone::UndoneJobs;
 use run_model::{Run, Tick};
@@ -26,6 +26,7 @@ fn is_released(run: &Run, job: Option<u32>, t: u64) -> bool
 /// Whether some job is pending at tick `t`.
 fn is_waiting(run: &Run, undone: &mut UndoneJobs, t: u64) -> bool
     requires small { IsSmall run.now }
+    requires released { AreReleased run.now }
     requires undone { AreUndone run.now t undone.old }
     ensures waiting { IsTrue result ↔ IsWaiting run.now t }
     ensures undone { AreUndone run.now t undone.new }
@@ -41,6 +42,7 @@ fn is_waiting(run: &Run, undone: &mut UndoneJobs, t: u64) -> bool
 /// Whether tick `t` is idle while some job is pending.
 fn breaks_idling(run: &Run, undone: &mut UndoneJobs, t: u64) -> bool
     requires small { IsSmall run.now }
+    requires released { AreReleased run.now }
     requires tick { t < length run.now.ticks }
     requires undone { AreUndone run.now t undone.old }
     ensures broken { IsTrue result ↔ IsTick (is_idle_broken run.now) run.now t }
@@ -55,6 +57,7 @@ fn breaks_idling(run: &Run, undone: &mut UndoneJobs, t: u64) -> bool
 /// The least idle tick at which some job is pending.
 pub fn idle_tick(alloc: Global, sheet: &Sheet, run: &Run) -> Result<Option<u64>, AllocError>
     requires small { IsSmall run.now }
+    requires released { AreReleased run.now }
     requires tasks { AreOf sheet.now run.now }
     ensures { IfOk result (IsFirstBelow (IsTick (is_idle_broken run.now) run.now)
         (length run.now.ticks)) }

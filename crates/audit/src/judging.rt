@@ -8,7 +8,7 @@ ghost use Rattle.audit.specs.Premises.{IsSmall};
 ghost use Rattle.audit.specs.Verdicts.{verdict_of, TellsCompliance};
 
 use crate::cuts::cut_sums;
-use crate::jobs::{first_crowd, first_unfit};
+use crate::jobs::{first_crowd, first_unfit, first_unreleased};
 use crate::responses::seen_tasks;
 use crate::ticks::{first_idling, first_invalid, first_overtaken, first_segment, first_shortage};
 use crate::verdict::{AuditVerdict, Fault};
@@ -34,6 +34,10 @@ fn first_broken<P: Policy, M: Tabled>(
     let unfit = first_unfit::<M>(sheet, run);
     if unfit.is_some() {
         return Ok(unfit);
+    }
+    let unreleased = first_unreleased(alloc, sheet, run)?;
+    if unreleased.is_some() {
+        return Ok(unreleased);
     }
     let invalid = first_invalid(alloc, sheet, run)?;
     if invalid.is_some() {

@@ -5,7 +5,7 @@ use policy::Policy;
 use preemption::Preemption;
 use supply::Supply;
 
-/// A run whose jobs are released at their arrivals breaks no rule exactly where it complies.
+/// A run breaks no rule exactly where it complies.
 pub fn verdict_decides<P: Policy, M: Preemption, S: Supply>()
     ensures { (supply : S) → VerdictDecides P.meaning M.cuts (S.sbf supply) }
 {}

@@ -8,6 +8,7 @@ mod jobs;
 mod judging;
 mod laws;
 mod priorities;
+mod releases;
 mod responses;
 mod segments;
 mod service_counts;

@@ -8,7 +8,7 @@ ghost use Rattle.schedule_laws.specs.Tests.{AreOf, is_priority_broken};
 ghost use Rattle.audit.specs.CutSums.{AreSums};
 ghost use Rattle.audit.specs.TickRules.{IsMoreUrgent, IsListed, IsOvertaken, IsTick};
 ghost use Rattle.audit.specs.UndoneJobs.{AreUndone};
-ghost use Rattle.audit.specs.Premises.{IsSmall};
+ghost use Rattle.audit.specs.Premises.{IsSmall, AreReleased};
 
 use crate::cuts::can_cut_job;
 use crate::undone::UndoneJobs;
@@ -43,6 +43,7 @@ fn is_overtaken<P: Policy>(
     t: u64,
 ) -> bool
     requires small { IsSmall run.now }
+    requires released { AreReleased run.now }
     requires tasks { AreOf sheet.now run.now }
     requires undone { AreUndone run.now t undone.old }
     ensures overtaken { IsTrue result ↔ IsOvertaken P.meaning sheet.now run.now key t }
@@ -67,6 +68,7 @@ fn breaks_priorities<P: Policy, M: Tabled>(
     t: u64,
 ) -> bool
     requires small { IsSmall run.now }
+    requires released { AreReleased run.now }
     requires tick { t < length run.now.ticks }
     requires tasks { AreOf sheet.now run.now }
     requires served { Serves M.cuts sheet.now }
@@ -92,6 +94,7 @@ pub fn priority_tick<P: Policy, M: Tabled>(
     sums: &[Vec<u64>],
 ) -> Result<Option<u64>, AllocError>
     requires small { IsSmall run.now }
+    requires released { AreReleased run.now }
     requires tasks { AreOf sheet.now run.now }
     requires served { Serves M.cuts sheet.now }
     requires sums { AreSums run.now sums.now }

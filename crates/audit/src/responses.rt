@@ -1,7 +1,7 @@
 //! What is seen of each task in a run that complies.
 ghost use Rattle.std.specs.Prelude.{◌≡◌, ◌+◌, ◌<◌, ◌^◌, IfOk, None, length, replicate};
 ghost use Rattle.audit.specs.Responses.{seen_of, seen_below};
-ghost use Rattle.audit.specs.Premises.{IsSmall, ArePositive, AreValid};
+ghost use Rattle.audit.specs.Premises.{IsSmall, AreReleased, ArePositive, AreValid};
 ghost use Rattle.audit.specs.NotedResponses.{AreResponses, with_response};
 ghost use Rattle.audit.specs.ServiceCounts.{IsServed};
 
@@ -13,6 +13,7 @@ use std::alloc::{AllocError, Global};
 /// The tick `t` is over: notes the response time of the job that is done with it.
 fn note_response(run: &Run, served: &[u64], responses: &mut [Option<u64>], t: u64)
     requires small { IsSmall run.now }
+    requires released { AreReleased run.now }
     requires tick { t < length run.now.ticks }
     requires valid { AreValid run.now }
     requires served { IsServed run.now (t + 1) served.now }
@@ -36,6 +37,7 @@ fn no_responses(alloc: Global, count: usize) -> Result<Vec<Option<u64>>, AllocEr
 /// The response times of the jobs that are done by the end of the run.
 fn response_times(alloc: Global, run: &Run) -> Result<Vec<Option<u64>>, AllocError>
     requires small { IsSmall run.now }
+    requires released { AreReleased run.now }
     requires costs { ArePositive run.now }
     requires valid { AreValid run.now }
     ensures { IfOk result (λ v. AreResponses run.now (length run.now.ticks) v.items) }
@@ -92,6 +94,7 @@ fn seen_task(run: &Run, responses: &[Option<u64>], i: u32) -> Seen
 /// What is seen of each of the first `count` tasks.
 pub fn seen_tasks(alloc: Global, run: &Run, count: u32) -> Result<Vec<Seen>, AllocError>
     requires small { IsSmall run.now }
+    requires released { AreReleased run.now }
     requires costs { ArePositive run.now }
     requires valid { AreValid run.now }
     ensures { IfOk result (λ v. v.items ≡ seen_below run.now count) }

@@ -1,12 +1,12 @@
 //! The rule on segments.
 ghost use Rattle.std.specs.Prelude.{◌≡◌, ◌+◌, ◌<◌, ◌↔◌, IfOk, IsTrue, cond, length, None, Some};
-ghost use Rattle.lists.specs.Searches.{IsFirstBelow};
+ghost use Rattle.lists.specs.Searches.{IsFirstBelow, OnlyFails};
 ghost use Rattle.preemption.specs.CutLaws.{Serves};
 ghost use Rattle.run_model.specs.Runs.{job_at, tick_at};
 ghost use Rattle.schedule_laws.specs.Compliance.{can_cut};
 ghost use Rattle.schedule_laws.specs.Tests.{AreOf, is_segment_broken};
 ghost use Rattle.audit.specs.CutSums.{AreSums};
-ghost use Rattle.audit.specs.TickRules.{Leaves, OnlyFails, IsTick};
+ghost use Rattle.audit.specs.TickRules.{Leaves, IsTick};
 ghost use Rattle.audit.specs.Premises.{IsSmall, AreFitting};
 ghost use Rattle.audit.specs.ServiceCounts.{IsServed};
 

@@ -5,7 +5,7 @@ ghost use Rattle.supply.specs.Promises.{sbf_of};
 ghost use Rattle.schedule_laws.specs.Tests.{AreOf, is_idle_broken, is_segment_broken, is_priority_broken};
 ghost use Rattle.audit.specs.CutSums.{AreSums};
 ghost use Rattle.audit.specs.Faults.{fault_at, invalid_in, short_in, idle_in, segment_in, priority_in};
-ghost use Rattle.audit.specs.Premises.{IsSmall, AreFitting, AreValid};
+ghost use Rattle.audit.specs.Premises.{IsSmall, AreFitting, AreReleased, AreValid};
 
 use crate::idling::idle_tick;
 use crate::priorities::priority_tick;
@@ -72,6 +72,7 @@ fn fault_of(rule: Rule, job: Option<u32>, t: u64) -> Option<Fault>
 pub fn first_idling(alloc: Global, sheet: &Sheet, run: &Run) -> Result<Option<Fault>, AllocError>
     requires small { IsSmall run.now }
     requires tasks { AreOf sheet.now run.now }
+    requires released { AreReleased run.now }
     ensures { IfOk result (λ f. f ≡ idle_in run.now) }
 {
     match idle_tick(alloc, sheet, run)? {
@@ -110,6 +111,7 @@ pub fn first_overtaken<P: Policy, M: Tabled>(
     requires tasks { AreOf sheet.now run.now }
     requires served { Serves M.cuts sheet.now }
     requires sums { AreSums run.now sums.now }
+    requires released { AreReleased run.now }
     ensures { IfOk result (λ f. f ≡ priority_in P.meaning M.cuts sheet.now run.now) }
 {
     match priority_tick::<P, M>(alloc, sheet, run, sums)? {

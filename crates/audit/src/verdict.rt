@@ -6,6 +6,9 @@ use lists::Items;
 pub enum Rule {
     /// Every job is of a task of the sheet, and fits it.
     Fit,
+    /// Every job is released at its arrival or later, by its task's jitter at most, and no job of
+    /// its task with an earlier arrival is released later.
+    Release,
     /// What runs is pending, and the jobs of its task that arrived earlier are done.
     Valid,
     /// No more jobs of a task arrive than its curve says.
@@ -49,7 +52,7 @@ pub enum AuditVerdict {
         rule: Rule,
         /// The job at fault, but for `Supply`.
         job: Option<u32>,
-        /// The tick at fault, but for `Fit`; for `Curve` the arrival of the job.
+        /// The tick at fault, but for `Fit` and `Release`; for `Curve` the arrival of the job.
         tick: Option<u64>,
     },
 }

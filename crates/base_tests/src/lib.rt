@@ -1,20 +1,9 @@
-//! Tests of curve, task_sheet, supply, policy, preemption and run_model: values worked out by hand,
-//! and what no clause shows.
+//! Tests of supply, policy and preemption: values worked out by hand, and what no clause shows.
 #![tactic(auto)]
 
-#[cfg(test)]
-mod makers;
 #[cfg(test)]
 mod policies;
 #[cfg(test)]
 mod preemptions;
-#[cfg(test)]
-mod prefixes;
-#[cfg(test)]
-mod runs;
-#[cfg(test)]
-mod sheets;
-#[cfg(test)]
-mod stairs;
 #[cfg(test)]
 mod supplies;

@@ -1,7 +1,7 @@
 //! What the policies mean, on two tasks of priorities 2 and 1 and deadlines 4 and 6.
-use crate::makers::{Draft, PLAIN, make_tasks};
 use lists::Items;
 use policy::{Cap, Edf, Fifo, Fp, Key, Policy};
+use small_tasks::{Draft, PLAIN, make_tasks};
 use std::alloc::Global;
 use std::process::Abort;
 use std::test::Fail;

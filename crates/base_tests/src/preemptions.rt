@@ -1,7 +1,7 @@
 //! What the kinds of preemption mean, on tasks of cost 5 and small jobs.
-use crate::makers::{Draft, PLAIN, Pieces, make_tasks};
 use lists::Items;
 use preemption::{FixedCut, FloatingCut, FullCut, NeverCut, PerTask, Preemption};
+use small_tasks::{Draft, PLAIN, Pieces, make_tasks};
 use std::alloc::Global;
 use std::process::Abort;
 use std::test::Fail;

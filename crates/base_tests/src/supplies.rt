@@ -1,6 +1,6 @@
 //! A promise of horizon 4 and times 3 and 4, by itself and as a sheet's, and a whole processor.
-use crate::makers::{PLAIN, make_tasks};
 use lists::Items;
+use small_tasks::{PLAIN, make_tasks};
 use std::alloc::Global;
 use std::process::Abort;
 use std::test::Fail;

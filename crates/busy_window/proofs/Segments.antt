@@ -6,8 +6,8 @@ use Rattle.std.proofs.lemmas.Bool.{cases_lt, cases_Bool}
 use Rattle.lists.proofs.SearchFacts.{last_up_to}
 use Rattle.task_sheet.specs.Sheets.{task_at, IsOf}
 use Rattle.run_model.specs.declared.run.Tick.TheVariants.{Runs}
-use Rattle.run_model.specs.Runs.{job_at, tick_at, service_of, IsPending}
-use Rattle.run_model.proofs.ServiceFacts.{same_job, not_off, step_cases, service_split}
+use Rattle.run_model.specs.Runs.{job_at, tick_at, runs, service_of, IsPending}
+use Rattle.run_model.proofs.ServiceFacts.{same_job, not_off, step_cases, service_ticks, ticks_in_split}
 use Rattle.schedule_laws.specs.Compliance.{can_cut}
 use Rattle.schedule_laws.specs.Prefixes.{ServedWithinCost, ServedSinceRelease}
 use Rattle.busy_window.specs.Busy.{IsBusy, EachRunsInside, EachIsOutsider}
@@ -121,9 +121,9 @@ module _ (g : Setting) (within_cost : ServedWithinCost g.m) (since_release : Ser
   pub outsider : EachIsOutsider g.m g.sheet g.run set s u
   outsider t k a b r o =
       let e : s + (u - s) ≡ u = omega arith in
-      let split = service_split g.run k s (u - s) (omega (arith, stretch.long)) in
+      let split = ticks_in_split (runs k) g.run s (u - s) (omega (arith, stretch.long)) in
       record {
         early = released_early t k a b r o;
-        short = omega (arith, ends_soon t k a b r o, split, ap (service_of g.run k) e);
+        short = omega (arith, ends_soon t k a b r o, split, service_ticks g.run k s, service_ticks g.run k (s + (u - s)), ap (service_of g.run k) e);
         only = λ v n c d q i. only_one t v k n a c b d r q o i;
       }

@@ -23,7 +23,7 @@ use Rattle.task_sheet.specs.declared.tasks.Task.{Task}
 use Rattle.task_sheet.specs.Sheets.{no_task, task_at, IsValidSheet}
 use Rattle.run_model.specs.Runs.{job_at}
 use Rattle.run_model.proofs.ServiceFacts.{service_le}
-use Rattle.cert_check.specs.Verdicts.{bounds_of, judged_as, verdict_by, verdict_of, AreInTime, AreSound, IsBoundedBy}
+use Rattle.cert_check.specs.Verdicts.{bounds_of, judged_as, verdict_by, cert_verdict_of, AreInTime, AreSound, IsBoundedBy}
 use Rattle.cert_check.specs.Laws.{MeetingIsAccepted, AcceptedIsSound}
 
 module _ (p : PolicyMeaning) (m : CutMeaning) (sbf : ℕ → ℕ) (sheet : SheetParts) where
@@ -32,7 +32,8 @@ module _ (p : PolicyMeaning) (m : CutMeaning) (sbf : ℕ → ℕ) (sheet : Sheet
   later_bound i bound later le bounded run complies j listed of within =
       omega (arith, bounded run complies j listed of (omega arith), service_le run j ((job_at run j).arrival + bound) ((job_at run j).arrival + later) (omega arith) within)
 
-  in_time_by : (deadlines : Bool) (bound : ℕ → ℕ) → ((i : ℕ) → i < length sheet.tasks → IsBounded p m sbf sheet i (bound i)) → ((i : ℕ) → i < length sheet.tasks → IsInTime sheet deadlines i (bound i)) → AreInTime p m sbf sheet deadlines
+  in_time_by : (deadlines : Bool) (bound : ℕ → ℕ) → ((i : ℕ) → i < length sheet.tasks → IsBounded p m sbf sheet i (bound i)) →
+      ((i : ℕ) → i < length sheet.tasks → IsInTime sheet deadlines i (bound i)) → AreInTime p m sbf sheet deadlines
   in_time_by false bound bounded in_time = tt
   in_time_by true bound bounded in_time = λ i lt.
       let is : get_or (map (λ (t : Task). t.deadline) sheet.tasks) i 0 ≡ (task_at sheet i).deadline = get_or-map (λ (t : Task). t.deadline) sheet.tasks i no_task 0 lt in
@@ -60,7 +61,7 @@ module _ (p : PolicyMeaning) (m : CutMeaning) (sbf : ℕ → ℕ) (sheet : Sheet
 
 module _ (p : PolicyMeaning) (m : CutMeaning) (sbf : ℕ → ℕ) where
   pub accepts : HaveOneReading cert_format cert_of_text → MeetingIsAccepted p m sbf
-  unfolding verdict_of
+  unfolding cert_verdict_of
   accepts one sheet deadlines cert within none =
       let reads : cert_of_text (text_of cert) ≡ Ok cert = reading_is cert_format cert_of_text one (text_of cert) (Ok cert) (record { within = within; text = refl }) in
       rw (reads, none) refl
@@ -76,6 +77,6 @@ module _ (p : PolicyMeaning) (m : CutMeaning) (sbf : ℕ → ℕ) where
     read_holds bytes (Err Memory) r = tt
 
   pub holds : PointsBound p m sbf → FailedMeans p m sbf → HaveOneReading cert_format cert_of_text → AcceptedIsSound p m sbf
-  unfolding verdict_of
+  unfolding cert_verdict_of
   holds law means one sheet valid served deadlines bytes bounds e =
       subst (IsBoundedBy p m sbf sheet deadlines) e (read_holds law means sheet valid served deadlines bytes (cert_of_text bytes) (one.exists bytes))

@@ -29,8 +29,8 @@ verdict_by failed (Err (Line line)) = Text line
 verdict_by failed (Err Memory) = Text 0
 
 -- the verdict over the bytes of a certificate
-unfoldable pub verdict_of : PolicyMeaning → CutMeaning → (ℕ → ℕ) → SheetParts → Bool → List ℕ → Verdict
-verdict_of p m sbf sheet deadlines bytes = verdict_by (failed_of p m sbf sheet deadlines) (cert_of_text bytes)
+unfoldable pub cert_verdict_of : PolicyMeaning → CutMeaning → (ℕ → ℕ) → SheetParts → Bool → List ℕ → Verdict
+cert_verdict_of p m sbf sheet deadlines bytes = verdict_by (failed_of p m sbf sheet deadlines) (cert_of_text bytes)
 
 -- the bytes are the text of a certificate of which no condition fails, and these are its bounds
 pub record IsAccepted (p : PolicyMeaning) (m : CutMeaning) (sbf : ℕ → ℕ) (sheet : SheetParts) (deadlines : Bool) (bytes : List ℕ) (bounds : List ℕ) : Type 0 where

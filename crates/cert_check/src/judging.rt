@@ -3,7 +3,7 @@ ghost use Rattle.std.specs.Prelude.{◌≡◌, IfOk, None};
 ghost use Rattle.certificate.specs.Text.{IsWithinGrammar};
 ghost use Rattle.preemption.specs.CutLaws.{Serves};
 ghost use Rattle.conditions.specs.Conditions.{failed_of};
-ghost use Rattle.cert_check.specs.Verdicts.{bounds_of, verdict_of, AreSound, IsVerdict, IsBoundedBy};
+ghost use Rattle.cert_check.specs.Verdicts.{bounds_of, cert_verdict_of, AreSound, IsVerdict, IsBoundedBy};
 
 use abstract_rta::points_bound;
 use certificate::{Cert, read_cert};
@@ -54,8 +54,10 @@ pub fn judge_cert<P: Policy, M: Preemption, S: Supply>(
 ) -> Option<Failed>
     requires fits { IsWithinGrammar cert.now }
     requires served { Serves M.cuts sheet.now }
-    ensures defined { result ≡ failed_of P.meaning M.cuts (S.sbf supply.now) sheet.now deadlines cert.now }
-    ensures bounded { result ≡ None → AreSound P.meaning M.cuts (S.sbf supply.now) sheet.now deadlines (bounds_of cert.now) }
+    ensures defined { result ≡ failed_of P.meaning M.cuts (S.sbf supply.now) sheet.now deadlines
+        cert.now }
+    ensures bounded { result ≡ None →
+        AreSound P.meaning M.cuts (S.sbf supply.now) sheet.now deadlines (bounds_of cert.now) }
 {
     supply.known();
     failed_means::<P, M, S>();
@@ -69,7 +71,7 @@ pub fn judge_cert<P: Policy, M: Preemption, S: Supply>(
 ///
 /// Where the verdict is `Accepted`, the response times of every run that complies with the sheet
 /// are bounded by the bounds, and with `deadlines` by the tasks' deadlines.
-#[tactic(auto, unfolding(crate::specs::Verdicts::verdict_of))]
+#[tactic(auto, unfolding(crate::specs::Verdicts::cert_verdict_of))]
 pub fn check_cert<P: Policy, M: Preemption, S: Supply>(
     alloc: Global,
     sheet: &Sheet,
@@ -78,9 +80,12 @@ pub fn check_cert<P: Policy, M: Preemption, S: Supply>(
     bytes: &[u8],
 ) -> Result<Verdict, AllocError>
     requires { Serves M.cuts sheet.now }
-    ensures defined { IfOk result (λ v. v ≡ verdict_of P.meaning M.cuts (S.sbf supply.now) sheet.now deadlines bytes.now) }
-    ensures judged { IfOk result (IsVerdict P.meaning M.cuts (S.sbf supply.now) sheet.now deadlines bytes.now) }
-    ensures bounded { IfOk result (IsBoundedBy P.meaning M.cuts (S.sbf supply.now) sheet.now deadlines) }
+    ensures defined { IfOk result (λ v.
+        v ≡ cert_verdict_of P.meaning M.cuts (S.sbf supply.now) sheet.now deadlines bytes.now) }
+    ensures judged { IfOk result
+        (IsVerdict P.meaning M.cuts (S.sbf supply.now) sheet.now deadlines bytes.now) }
+    ensures bounded { IfOk result
+        (IsBoundedBy P.meaning M.cuts (S.sbf supply.now) sheet.now deadlines) }
 {
     let cert = match read_cert(alloc, bytes) {
         Ok(cert) => cert,

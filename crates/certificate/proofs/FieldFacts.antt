@@ -3,6 +3,7 @@ use Rattle.std.proofs.Common.{◌≡◌, ℕ, ◌<◌, ◌≤◌, ◌==◌, Bool
 use Rattle.std.specs.Char.{is_ascii_digit}
 use Rattle.std.proofs.lemmas.Bool.Decides.{nat_tests}
 use Rattle.std.proofs.lemmas.Bool.{and_parts}
+use Rattle.lists.specs.Limits.{greatest_number}
 use Rattle.poet_io.proofs.DecimalFacts.{digit_from_test}
 use Rattle.certificate.specs.Machine.{least, greatest, ender}
 use Rattle.certificate.specs.declared.place.Field.{Field}
@@ -50,7 +51,7 @@ nine_fits (field.Bound w) = omega arith
 nine_fits field.Offset = omega arith
 nine_fits (field.Finish a) = omega arith
 
-pub greatest_small : (f : Field) → greatest f ≤ 1000000000
+pub greatest_small : (f : Field) → greatest f ≤ greatest_number
 greatest_small field.Tasks = omega arith
 greatest_small (field.Count w r) = omega arith
 greatest_small field.Window = omega arith

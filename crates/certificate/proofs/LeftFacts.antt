@@ -6,6 +6,7 @@ use Rattle.std.specs.Char.{is_ascii_digit}
 use Rattle.std.proofs.lemmas.List.{append-nil, drop_more, drop_all}
 use Rattle.std.proofs.lemmas.Fmt.{decimal_digit}
 use Rattle.std.proofs.lemmas.Bool.{and_parts}
+use Rattle.lists.specs.Limits.{most_points, most_tasks}
 use Rattle.poet_io.proofs.DecimalFacts.{decimal_more}
 use Rattle.certificate.proofs.FieldFacts.{cases, eq_from_test, le_from_test, positive_from_test, digit_and, greatest_small}
 use Rattle.certificate.specs.Text.{point_of, point_text, entries_text, IsPoint, IsEntry, cert_format}
@@ -286,7 +287,8 @@ pub record HasEntries (i m : ℕ) (t : List ℕ) : Type 0 where
   pub each : All IsEntry entries
   pub is : t ≡ entries_text i entries ++ codes "end\n"
 
-entry_join : (t r s u v z rest i w b c n ps es : List ℕ) → t ≡ ((116 ∷ 97 ∷ 115 ∷ 107 ∷ 32 ∷ []) ++ (i ++ (32 ∷ []))) ++ r → r ≡ w ++ (32 ∷ s) → s ≡ b ++ (32 ∷ u) → u ≡ c ++ (10 ∷ v) → c ≡ n → v ≡ ps ++ z → z ≡ es ++ rest
+entry_join : (t r s u v z rest i w b c n ps es : List ℕ) → t ≡ ((116 ∷ 97 ∷ 115 ∷ 107 ∷ 32 ∷ []) ++ (i ++ (32 ∷ []))) ++ r → r ≡ w ++ (32 ∷ s) →
+    s ≡ b ++ (32 ∷ u) → u ≡ c ++ (10 ∷ v) → c ≡ n → v ≡ ps ++ z → z ≡ es ++ rest
     → t ≡ (((116 ∷ 97 ∷ 115 ∷ 107 ∷ 32 ∷ []) ++ (i ++ ((32 ∷ []) ++ (w ++ ((32 ∷ []) ++ (b ++ ((32 ∷ []) ++ (n ++ (10 ∷ []))))))))) ++ (ps ++ es)) ++ rest
 entry_join t r s u v z rest i w b c n ps es e f g h k l q =
     let tail = w ++ (32 ∷ (b ++ (32 ∷ (n ++ (10 ∷ (ps ++ (es ++ rest))))))) in
@@ -305,7 +307,7 @@ entries_left i (suc m) t h =
     record {
       entries = e ∷ others.entries;
       count = ap suc others.count;
-      each = All-cons IsEntry e others.entries (record { window = w.high; bound = r.high; some = subst (λ (n : ℕ). 1 ≤ n) (sym points.count) k.low; few = subst (λ (n : ℕ). n ≤ 1000000) (sym points.count) k.high; points = points.each }) others.each;
+      each = All-cons IsEntry e others.entries (record { window = w.high; bound = r.high; some = subst (λ (n : ℕ). 1 ≤ n) (sym points.count) k.low; few = subst (λ (n : ℕ). n ≤ most_points) (sym points.count) k.high; points = points.each }) others.each;
       is = entry_join t h.rest w.rest r.rest k.rest points.rest (codes "end\n") (decimal i) (decimal w.n) (decimal r.n) (decimal k.n) (decimal (length points.points)) (flat_map point_text points.points) (entries_text (suc i) others.entries)
           h.is w.is r.is k.is (ap decimal (sym points.count)) points.is others.is;
     }
@@ -320,7 +322,7 @@ text_of_left t h =
     let es = entries_left 0 n.n n.rest n.after in (
       record { entries = es.entries },
       record {
-        within = record { some = subst (λ (n : ℕ). 1 ≤ n) (sym es.count) n.low; few = subst (λ (n : ℕ). n ≤ 256) (sym es.count) n.high; entries = es.each };
+        within = record { some = subst (λ (n : ℕ). 1 ≤ n) (sym es.count) n.low; few = subst (λ (n : ℕ). n ≤ most_tasks) (sym es.count) n.high; entries = es.each };
         text = text_join t h.rest n.rest (codes "end\n") (decimal n.n) (decimal (length es.entries)) (entries_text 0 es.entries) h.is n.is (ap decimal (sym es.count)) es.is;
       },
     )

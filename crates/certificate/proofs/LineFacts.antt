@@ -2,6 +2,7 @@
 use Rattle.std.proofs.Common.{◌≡◌, ℕ, suc, zero, ◌+◌, ◌-◌, ◌*◌, ◌<◌, ◌≤◌, ◌==◌, false, not, ◌&&◌, cond, nat_le, length, slice_index, codes, refl, arith, decimal, length-append}
 use Rattle.std.specs.Char.{is_ascii_digit}
 use Rattle.std.proofs.lemmas.Bool.{and_parts}
+use Rattle.lists.specs.Limits.{most_tasks, most_points}
 use Rattle.poet_io.proofs.DecimalFacts.{digit_from_test}
 use Rattle.certificate.proofs.FieldFacts.{cases, eq_from_test, ne_from_test, le_from_test, digit_is_inside, nine_fits}
 use Rattle.certificate.specs.Machine.{word_text, after_word, least, greatest, ender, at_place, after_entry, after_point, after_number, in_word, most, most_word, most_field, is_good_at, IsProgress, first_digit, more_digits, next_place, IsPlace, IsRight, IsRightWord, bad}
@@ -20,10 +21,10 @@ record Counts (x : ℕ) (q : Expected) (line n : ℕ) : Type 0 where
   pub inside : (x == 10) ≡ false → n ≤ line
   pub bad : is_good_at q ≡ false → n ≤ line
 
-task_len : (i : ℕ) → i < 256 → length (word_text word.Task i) ≤ 26
+task_len : (i : ℕ) → i < most_tasks → length (word_text word.Task i) ≤ 26
 task_len i h = omega (arith, length-append (decimal i) (codes " "), length-decimal-le 20 i (omega arith) (omega arith) (omega arith))
 
-most_top : (e : Expected) (i k : ℕ) → i < 256 → IsRight e i k → most e i k ≤ 768006937
+most_top : (e : Expected) (i k : ℕ) → i < most_tasks → IsRight e i k → most e i k ≤ 768006937
 most_top (Rest word.Head at) i k h r = omega (arith, r.0)
 most_top (Rest word.Task at) i k h r = omega (arith, r.0, task_len i h)
 most_top (Rest word.Point at) i k h r = omega (arith, r.0)
@@ -52,7 +53,7 @@ right_after word.Task i k h = tt
 right_after word.Point i k h = h
 right_after word.End i k h = tt
 
-most_after : (w : Word) (i k at : ℕ) → i < 256 → at + 1 ≡ length (word_text w i) → most_word w at i k + 1 ≤ most (after_word w) i k
+most_after : (w : Word) (i k at : ℕ) → i < most_tasks → at + 1 ≡ length (word_text w i) → most_word w at i k + 1 ≤ most (after_word w) i k
 most_after word.Head i k at h e = omega arith
 most_after word.Task i k at h e = omega (arith, task_len i h)
 most_after word.Point i k at h e = omega arith
@@ -64,7 +65,8 @@ most_next word.Task i k at = omega arith
 most_next word.Point i k at = omega arith
 most_next word.End i k at = omega arith
 
-word_lines : (w : Word) (i m k at x line n : ℕ) → IsPlace (at_place (Rest w at) i m k) → line ≤ most_word w at i k → Counts x (in_word i m k w at x).0.expected line n → IsProgress (in_word i m k w at x).0 n
+word_lines : (w : Word) (i m k at x line n : ℕ) → IsPlace (at_place (Rest w at) i m k) → line ≤ most_word w at i k →
+    Counts x (in_word i m k w at x).0.expected line n → IsProgress (in_word i m k w at x).0 n
 word_lines w i m k at x line n p le =
     cases (slice_index (word_text w i) at == x)
     (λ here. cases (at + 1 == length (word_text w i))
@@ -78,7 +80,8 @@ word_lines w i m k at x line n p le =
     })))
     (λ here. rw here (λ c. bad_lines x (most_word w at i k) line n (most_top (Rest w at) i k (omega (arith, p.few)) p.right) le c))
 
-first_lines : (f : Field) (i m k x line n : ℕ) → IsPlace (at_place (Number f) i m k) → line ≤ most_field f i k → Counts x (first_digit i m k f x).0.expected line n → IsProgress (first_digit i m k f x).0 n
+first_lines : (f : Field) (i m k x line n : ℕ) → IsPlace (at_place (Number f) i m k) → line ≤ most_field f i k →
+    Counts x (first_digit i m k f x).0.expected line n → IsProgress (first_digit i m k f x).0 n
 first_lines f i m k x line n p le =
     cases (is_ascii_digit x && nat_le (least f) (x - 48))
     (λ test.
@@ -87,15 +90,16 @@ first_lines f i m k x line n p le =
     rw test (λ c. record { right = record { few = p.few; points = p.points; right = (le_from_test (least f) (x - 48) t.1, omega (arith, d.1, nine_fits f), p.right) }; small = omega (arith, c.inside (digit_is_inside x t.0)) }))
     (λ test. rw test (λ c. bad_lines x (most_field f i k) line n (most_top (Number f) i k (omega (arith, p.few)) p.right) le c))
 
-entry_lines : (i m n : ℕ) → i + m < 256 → n ≤ 20 + suc i * 3000027 → IsProgress (after_entry i m) n
+entry_lines : (i m n : ℕ) → i + m < most_tasks → n ≤ 20 + suc i * 3000027 → IsProgress (after_entry i m) n
 entry_lines i zero n few le = record { right = record { few = omega arith; points = omega arith; right = (omega arith, tt) }; small = omega arith }
 entry_lines i (suc m) n few le = record { right = record { few = omega arith; points = omega arith; right = (omega arith, tt) }; small = omega arith }
 
-point_lines : (i m k n : ℕ) → i + m < 256 → k ≤ 1000000 → n ≤ 47 + i * 3000027 + 3 * (1000000 - k) → IsProgress (after_point i m k) n
+point_lines : (i m k n : ℕ) → i + m < most_tasks → k ≤ most_points → n ≤ 47 + i * 3000027 + 3 * (most_points - k) → IsProgress (after_point i m k) n
 point_lines i m zero n few top le = entry_lines i m n few (omega arith)
 point_lines i m (suc k) n few top le = record { right = record { few = few; points = top; right = (omega arith, omega arith) }; small = omega arith }
 
-number_lines : (f : Field) (i m k v line n : ℕ) → IsPlace (at_place (Digits f v) i m k) → line ≤ most_field f i k → n ≤ line + 1 → ((ender f == 10) ≡ false → n ≤ line) → IsProgress (after_number i m k f v).0 n
+number_lines : (f : Field) (i m k v line n : ℕ) → IsPlace (at_place (Digits f v) i m k) → line ≤ most_field f i k → n ≤ line + 1 →
+    ((ender f == 10) ≡ false → n ≤ line) → IsProgress (after_number i m k f v).0 n
 number_lines field.Tasks i m k v line n p le one inside = record { right = record { few = omega (arith, p.right.1); points = omega arith; right = (omega arith, tt) }; small = omega arith }
 number_lines field.Window i m k v line n p le one inside = record { right = record { few = p.few; points = p.points; right = tt }; small = omega (arith, inside refl) }
 number_lines (field.Bound w) i m k v line n p le one inside = record { right = record { few = p.few; points = p.points; right = tt }; small = omega (arith, inside refl) }
@@ -103,7 +107,8 @@ number_lines (field.Count w r) i m k v line n p le one inside = record { right =
 number_lines field.Offset i m k v line n p le one inside = record { right = record { few = p.few; points = p.points; right = p.right.2 }; small = omega (arith, inside refl) }
 number_lines (field.Finish a) i m k v line n p le one inside = point_lines i m (k - 1) n p.few (omega (arith, p.points)) (omega (arith, p.points, p.right.2))
 
-more_lines : (f : Field) (i m k v x line n : ℕ) → IsPlace (at_place (Digits f v) i m k) → line ≤ most_field f i k → Counts x (more_digits i m k f v x).0.expected line n → IsProgress (more_digits i m k f v x).0 n
+more_lines : (f : Field) (i m k v x line n : ℕ) → IsPlace (at_place (Digits f v) i m k) → line ≤ most_field f i k →
+    Counts x (more_digits i m k f v x).0.expected line n → IsProgress (more_digits i m k f v x).0 n
 more_lines f i m k v x line n p le =
     cases (x == ender f)
     (λ end.
@@ -116,7 +121,8 @@ more_lines f i m k v x line n p le =
     rw (end, test) (λ c. record { right = record { few = p.few; points = p.points; right = (omega (arith, p.right.0), le_from_test (v * 10 + (x - 48)) (greatest f) q.1, p.right.2) }; small = omega (arith, c.inside (digit_is_inside x t.0)) }))
     (λ test. rw (end, test) (λ c. bad_lines x (most_field f i k) line n (most_top (Digits f v) i k (omega (arith, p.few)) p.right) le c)))
 
-lines_at : (e : Expected) (i m k x line n : ℕ) → IsPlace (at_place e i m k) → line ≤ most e i k → Counts x (next_place (at_place e i m k) x).0.expected line n → IsProgress (next_place (at_place e i m k) x).0 n
+lines_at : (e : Expected) (i m k x line n : ℕ) → IsPlace (at_place e i m k) → line ≤ most e i k → Counts x (next_place (at_place e i m k) x).0.expected line n →
+    IsProgress (next_place (at_place e i m k) x).0 n
 lines_at (Rest w at) i m k x line n p le c = word_lines w i m k at x line n p le c
 lines_at (Number f) i m k x line n p le c = first_lines f i m k x line n p le c
 lines_at (Digits f v) i m k x line n p le c = more_lines f i m k v x line n p le c

@@ -38,7 +38,8 @@ pub cert_of_text-reading : (b : List ℕ) (r : Result Cert TextRefusal) → IsRe
 cert_of_text-reading = reading_is cert_format cert_of_text one_reading_each
 
 -- the bytes that were all fed, and are no certificate's text
-pub refused_all : (b bytes : List ℕ) (over : Bool) (n : ℕ) → b ≡ bytes → (IsTrue over ↔ ((c : Cert) × Parses cert_format b c)) → over ≡ false → IsRefusedLine cert_format b n → IsRefusedAt cert_format bytes n
+pub refused_all : (b bytes : List ℕ) (over : Bool) (n : ℕ) → b ≡ bytes → (IsTrue over ↔ ((c : Cert) × Parses cert_format b c)) → over ≡ false →
+    IsRefusedLine cert_format b n → IsRefusedAt cert_format bytes n
 refused_all b bytes over n e h not_over line = subst (λ (t : List ℕ). IsRefusedAt cert_format t n) e (record { none = λ c p. absurd (both_ways over not_over (h.1 (c, p))); line = line })
 
 -- what is written is read as it was

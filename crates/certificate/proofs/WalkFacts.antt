@@ -5,6 +5,7 @@ use Rattle.std.proofs.lemmas.List.{append-nil, drop-drop}
 use Rattle.std.proofs.lemmas.List.Elements.{All-head, All-tail}
 use Rattle.std.proofs.lemmas.Fmt.{decimal_by_steps}
 use Rattle.std.proofs.lemmas.Bool.Decides.{nat_tests}
+use Rattle.lists.specs.Limits.{most_tasks}
 use Rattle.poet_io.proofs.DecimalFacts.{IsOneLine, one_line_append, decimal_one_line, digit_test, digit_is_no_newline}
 use Rattle.certificate.proofs.FieldFacts.{least_one, ender_small}
 use Rattle.certificate.specs.Text.{point_text, entry_line, entries_text, text_of, IsPoint, IsEntry, IsWithinGrammar}
@@ -126,7 +127,7 @@ points_place i m zero h = absurd (omega arith)
 points_place i m (suc k) h = refl
 
 -- an entry's lines
-one_entry : (e : Entry) (ss : List LineStep) (i m : ℕ) (t : List ℕ) → i < 256 → IsEntry e
+one_entry : (e : Entry) (ss : List LineStep) (i m : ℕ) (t : List ℕ) → i < most_tasks → IsEntry e
     → walk ss (at_place (Rest word.Task 0) i m 0) (entry_line i e ++ (flat_map point_text e.points ++ t)) ≡ walk (ss ++ (says.Entry i e.window e.bound (length e.points) ∷ map point_step e.points)) (after_entry i m) t
 one_entry e ss i m t small h =
     let n = length e.points in
@@ -142,7 +143,7 @@ one_entry e ss i m t small h =
     ∙ all_points e.points (ss ++ said ∷ []) i m t h.points
     ∙ ap (λ (l : List LineStep). walk l (after_entry i m) t) (append_assoc ss (said ∷ []) (map point_step e.points))
 
-all_entries : (es : List Entry) (ss : List LineStep) (i : ℕ) → i + length es < 256 → All IsEntry es
+all_entries : (es : List Entry) (ss : List LineStep) (i : ℕ) → i + length es < most_tasks → All IsEntry es
     → walk ss (after_entry i (length es)) (entries_text (suc i) es ++ codes "end\n") ≡ (ss ++ (entries_steps (suc i) es ++ says.End ∷ []), at_place Over 0 0 0)
 all_entries [] ss i small h = end_read ss
 all_entries (e ∷ es) ss i small h =
@@ -154,7 +155,7 @@ all_entries (e ∷ es) ss i small h =
     ∙ all_entries es (ss ++ said) (suc i) (omega arith) (All-tail IsEntry e es h)
     ∙ ap (λ (l : List LineStep). (l, at_place Over 0 0 0)) (simp append_assoc)
 
-entries_walk : (es : List Entry) → 1 ≤ length es → length es ≤ 256 → All IsEntry es
+entries_walk : (es : List Entry) → 1 ≤ length es → length es ≤ most_tasks → All IsEntry es
     → walk [] start (text_of (record { entries = es })) ≡ (steps_of (record { entries = es }), at_place Over 0 0 0)
 entries_walk [] some few h = absurd (omega arith)
 entries_walk (e ∷ es) some few h =

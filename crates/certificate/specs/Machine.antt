@@ -1,7 +1,7 @@
 -- Where a certificate's text stands after some bytes, and what the next byte does.
 use Rattle.std.specs.Prelude.{◌≡◌, ℕ, suc, zero, ◌+◌, ◌-◌, ◌*◌, ◌<◌, ◌≤◌, ◌==◌, Bool, true, false, not, ◌&&◌, if◌then◌else◌, nat_le, List, [], ◌∷◌, ◌++◌, length, slice_index, codes, decimal}
 use Rattle.std.specs.Char.{is_ascii_digit}
-use Rattle.certificate.specs.Text.{limit}
+use Rattle.lists.specs.Limits.{greatest_number, most_tasks, most_points}
 use Rattle.certificate.specs.Progress.{Progress}
 use Rattle.certificate.specs.declared.place.Word.{Word}
 use Rattle.certificate.specs.declared.place.Word.TheVariants as word
@@ -40,9 +40,9 @@ least _ = 0
 
 -- the greatest number of a field
 abbrev pub greatest : Field → ℕ
-greatest field.Tasks = 256
-greatest (field.Count w r) = 1000000
-greatest _ = limit
+greatest field.Tasks = most_tasks
+greatest (field.Count w r) = most_points
+greatest _ = greatest_number
 
 -- the byte behind a field's number: a newline or a space
 abbrev pub ender : Field → ℕ
@@ -128,8 +128,8 @@ IsRight Nothing i k = Unit {0}
 
 -- a place that bytes can lead to
 pub record IsPlace (p : Place) : Type 0 where
-  pub few : p.task + p.after < 256
-  pub points : p.points ≤ 1000000
+  pub few : p.task + p.after < most_tasks
+  pub points : p.points ≤ most_points
   pub right : IsRight p.expected p.task p.points
 
 -- before the first byte
@@ -174,7 +174,7 @@ walk ss p (x ∷ t) = walk (if x == 10 then ss ++ (next_place p x).1 ∷ [] else
 abbrev pub most_word : Word → ℕ → ℕ → ℕ → ℕ
 most_word word.Head at i k = 1 + at
 most_word word.Task at i k = 20 + i * 3000027 + at
-most_word word.Point at i k = 47 + i * 3000027 + 3 * (1000000 - k) + at
+most_word word.Point at i k = 47 + i * 3000027 + 3 * (most_points - k) + at
 most_word word.End at i k = 768006932 + at
 
 -- the same, at a field
@@ -183,8 +183,8 @@ most_field field.Tasks i k = 19
 most_field field.Window i k = 46 + i * 3000027
 most_field (field.Bound w) i k = 46 + i * 3000027
 most_field (field.Count w r) i k = 46 + i * 3000027
-most_field field.Offset i k = 49 + i * 3000027 + 3 * (1000000 - k)
-most_field (field.Finish a) i k = 49 + i * 3000027 + 3 * (1000000 - k)
+most_field field.Offset i k = 49 + i * 3000027 + 3 * (most_points - k)
+most_field (field.Finish a) i k = 49 + i * 3000027 + 3 * (most_points - k)
 
 -- the same, where `e` is expected
 abbrev pub most : Expected → ℕ → ℕ → ℕ

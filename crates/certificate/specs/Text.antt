@@ -1,6 +1,7 @@
 -- The one text of each certificate.
 use Rattle.std.specs.Prelude.{◌≡◌, ℕ, suc, ◌≤◌, List, [], ◌∷◌, ◌++◌, length, codes, decimal, All}
 use Rattle.std.specs.List.{flat_map}
+use Rattle.lists.specs.Limits.{greatest_number, most_points, most_tasks}
 use Rattle.poet_io.specs.Texts.{Format}
 use Rattle.certificate.specs.declared.cert.Entry.{Entry}
 use Rattle.certificate.specs.declared.cert.Cert.{Cert}
@@ -28,27 +29,23 @@ abbrev pub text_of : Cert → List ℕ
 text_of c =
     codes "poet-cert 1\n" ++ (codes "tasks " ++ (decimal (length c.entries) ++ (codes "\n" ++ (entries_text 0 c.entries ++ codes "end\n"))))
 
--- the greatest number that a certificate's text may have
-abbrev pub limit : ℕ
-limit = 1000000000
-
 -- a point's numbers are in range
 pub record IsPoint (p : Point) : Type 0 where
-  pub offset : p.offset ≤ limit
-  pub end : p.end ≤ limit
+  pub offset : p.offset ≤ greatest_number
+  pub end : p.end ≤ greatest_number
 
--- an entry's numbers are in range, and it has 1 to 1000000 points
+-- an entry's numbers are in range, and it has 1 to most_points points
 pub record IsEntry (e : Entry) : Type 0 where
-  pub window : e.window ≤ limit
-  pub bound : e.bound ≤ limit
+  pub window : e.window ≤ greatest_number
+  pub bound : e.bound ≤ greatest_number
   pub some : 1 ≤ length e.points
-  pub few : length e.points ≤ 1000000
+  pub few : length e.points ≤ most_points
   pub points : All IsPoint e.points
 
--- the certificate has 1 to 256 entries, each within the grammar
+-- the certificate has 1 to most_tasks entries, each within the grammar
 pub record IsWithinGrammar (c : Cert) : Type 0 where
   pub some : 1 ≤ length c.entries
-  pub few : length c.entries ≤ 256
+  pub few : length c.entries ≤ most_tasks
   pub entries : All IsEntry c.entries
 
 -- the format of certificates: each that is within the grammar has its one text

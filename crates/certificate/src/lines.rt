@@ -1,6 +1,7 @@
 //! A certificate's text as it comes, byte by byte.
 
 ghost use Rattle.std.specs.Prelude.{◌≡◌, ◌<◌, ◌↔◌, ◌==◌, ◌&&◌, ◌+◌, ℕ, [], ◌∷◌, ◌++◌, List, if◌then◌else◌, IsTrue, slice_index_or};
+ghost use Rattle.lists.specs.Limits.{greatest_number};
 ghost use Rattle.poet_io.specs.Texts.{Parses, BeginsText, IsRefusedLine, newlines};
 ghost use Rattle.certificate.specs.Text.{cert_format};
 ghost use Rattle.certificate.specs.Steps.{steps_of};
@@ -13,7 +14,7 @@ use std::marker::Model;
 
 /// The line after one more byte that led to `place`, where bytes led to line `line` before.
 fn next_line(line: u64, byte: u8, place: Place) -> u64
-    requires { line < 1000000000 }
+    requires { line < greatest_number }
     ensures { result ≡ (if byte == 10 && is_good_at place.expected then line + 1 else line) }
 {
     if byte == b'\n' && place.is_good() {

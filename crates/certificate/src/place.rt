@@ -4,10 +4,12 @@
 //! place needs no memory, and one byte leads from place to place.
 
 ghost use Rattle.std.specs.Prelude.{◌≡◌, ◌<◌, ◌≤◌, ◌+◌, ℕ, length, slice_index};
+ghost use Rattle.lists.specs.Limits.{most_tasks};
 ghost use Rattle.certificate.specs.Machine.{word_text, after_word, word_step, least, greatest, ender, at_place, bad, after_point, after_number, in_word, first_digit, more_digits, next_place, start, is_good_at, is_over_at, IsRightField, IsPlace};
 ghost use Rattle.certificate.specs.declared.step.LineStep.TheVariants.{More};
 
 use crate::step::LineStep;
+use lists::limits::{GREATEST_NUMBER, MOST_POINTS, MOST_TASKS};
 use poet_io::put_number;
 
 /// A part of the text that is fixed at its place.
@@ -131,9 +133,9 @@ impl Field {
         ensures { result ≡ greatest self }
     {
         match self {
-            Field::Tasks => 256,
-            Field::Count { .. } => 1_000_000,
-            _ => 1_000_000_000,
+            Field::Tasks => MOST_TASKS as u64,
+            Field::Count { .. } => MOST_POINTS,
+            _ => GREATEST_NUMBER,
         }
     }
 
@@ -167,7 +169,7 @@ impl Place {
 
     /// Behind a point, when so many are still to come.
     fn after_point(self, points: u32) -> Place
-        requires { self.task + self.after < 256 }
+        requires { self.task + self.after < most_tasks }
         ensures { result ≡ after_point self.task self.after points }
     {
         if points > 0 {
@@ -200,7 +202,7 @@ impl Place {
 
     /// Behind a number.
     fn after_number(self, field: Field, value: u64) -> (Place, LineStep)
-        requires few { self.task + self.after < 256 }
+        requires few { self.task + self.after < most_tasks }
         requires least { least field ≤ value }
         requires greatest { value ≤ greatest field }
         requires points { IsRightField field self.points }
@@ -266,7 +268,7 @@ impl Place {
     }
 
     fn more_digits(self, field: Field, value: u64, byte: u8) -> (Place, LineStep)
-        requires few { self.task + self.after < 256 }
+        requires few { self.task + self.after < most_tasks }
         requires least { least field ≤ value }
         requires greatest { value ≤ greatest field }
         requires points { IsRightField field self.points }

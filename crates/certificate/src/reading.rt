@@ -1,7 +1,7 @@
 //! Reading a certificate.
 
 ghost use Rattle.std.specs.Prelude.{◌≡◌, ◌≢◌, OnOk, IfOk, IfErr};
-ghost use Rattle.poet_io.specs.Texts.{Parses, IsReading, Gives};
+ghost use Rattle.poet_io.specs.Texts.{Parses, IsReading, AnswersReading};
 ghost use Rattle.certificate.specs.Text.{cert_format};
 ghost use Rattle.certificate.specs.Parsing.{add_point, add_step, cert_of_text};
 
@@ -62,7 +62,7 @@ pub fn read_cert(alloc: Global, bytes: &[u8]) -> Result<Cert, TextRefusal>
     ensures found { IfOk result (λ cert. Parses cert_format bytes.now cert) }
     ensures refused { IfErr result (λ e. e ≢ TextRefusal.Memory →
         IsReading cert_format bytes.now (Err e)) }
-    ensures gives { Gives result (cert_of_text bytes.now) }
+    ensures gives { AnswersReading result (cert_of_text bytes.now) }
 {
     let mut lines = Lines::new();
     let mut entries = Vec::new(alloc);

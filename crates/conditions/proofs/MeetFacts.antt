@@ -74,13 +74,15 @@ module _ (p : PolicyMeaning) (m : CutMeaning) (sbf : ℕ → ℕ) (sheet : Sheet
       (first_from _ _ (must_from _ _ (le-leb _ _ meets.within.end))
       (first_from _ _ (must_from _ _ (end_true a x meets.end)) (must_from _ _ (le-leb _ _ meets.within.enough)))))
 
-  pub points_mean : (window bound : ℕ) (before : Option ℕ) (qs : List Point) → points_failed_of p m sbf sheet i window bound before qs ≡ None → PointsMeet p m sbf sheet i window bound before (pairs_of qs)
+  pub points_mean : (window bound : ℕ) (before : Option ℕ) (qs : List Point) → points_failed_of p m sbf sheet i window bound before qs ≡ None →
+      PointsMeet p m sbf sheet i window bound before (pairs_of qs)
   points_mean window bound before [] h = gap_means before window h
   points_mean window bound before (q ∷ qs) h =
       let parts = first_parts _ _ h in
       (point_means window bound before q.offset q.end parts.0, points_mean window bound (Some q.offset) qs parts.1)
 
-  pub points_none : (window bound : ℕ) (before : Option ℕ) (qs : List Point) → PointsMeet p m sbf sheet i window bound before (pairs_of qs) → points_failed_of p m sbf sheet i window bound before qs ≡ None
+  pub points_none : (window bound : ℕ) (before : Option ℕ) (qs : List Point) → PointsMeet p m sbf sheet i window bound before (pairs_of qs) →
+      points_failed_of p m sbf sheet i window bound before qs ≡ None
   points_none window bound before [] meet = gap_none before window meet
   points_none window bound before (q ∷ qs) meet = first_from _ _ (point_none window bound before q.offset q.end meet.0) (points_none window bound (Some q.offset) qs meet.1)
 
@@ -116,7 +118,8 @@ module _ (p : PolicyMeaning) (m : CutMeaning) (sbf : ℕ → ℕ) (sheet : Sheet
       first_from _ _ (ap (named i) (first_from _ _ (must_from _ _ (le-leb _ _ meets.covers)) later))
       (points_none e.window e.bound None e.points meets.points)
 
-pub cert_means : (p : PolicyMeaning) (m : CutMeaning) (sbf : ℕ → ℕ) (sheet : SheetParts) (deadlines : Bool) (cert : Cert) → failed_of p m sbf sheet deadlines cert ≡ None → CertMeets p m sbf sheet deadlines cert
+pub cert_means : (p : PolicyMeaning) (m : CutMeaning) (sbf : ℕ → ℕ) (sheet : SheetParts) (deadlines : Bool) (cert : Cert) →
+    failed_of p m sbf sheet deadlines cert ≡ None → CertMeets p m sbf sheet deadlines cert
 unfolding failed_of
 cert_means p m sbf sheet deadlines cert h =
     let parts = first_parts _ _ h in
@@ -125,7 +128,8 @@ cert_means p m sbf sheet deadlines cert h =
       tasks = λ i l. task_means p m sbf sheet i deadlines (entry_at cert i) (none_below (λ k. task_failed_of p m sbf sheet deadlines k (entry_at cert k)) (length sheet.tasks) i parts.1 l);
     }
 
-pub cert_none : (p : PolicyMeaning) (m : CutMeaning) (sbf : ℕ → ℕ) (sheet : SheetParts) (deadlines : Bool) (cert : Cert) → CertMeets p m sbf sheet deadlines cert → failed_of p m sbf sheet deadlines cert ≡ None
+pub cert_none : (p : PolicyMeaning) (m : CutMeaning) (sbf : ℕ → ℕ) (sheet : SheetParts) (deadlines : Bool) (cert : Cert) →
+    CertMeets p m sbf sheet deadlines cert → failed_of p m sbf sheet deadlines cert ≡ None
 unfolding failed_of
 cert_none p m sbf sheet deadlines cert meets =
     first_from _ _ (must_from _ _ (eq-eqb _ _ meets.count))

@@ -1,5 +1,6 @@
 //! The conditions of an entry and of a certificate.
 ghost use Rattle.std.specs.Prelude.{◌≡◌, ◌≤◌, ◌<◌, length};
+ghost use Rattle.lists.specs.Limits.{greatest_number};
 ghost use Rattle.preemption.specs.CutLaws.{Serves};
 ghost use Rattle.certificate.specs.Text.{IsEntry, IsWithinGrammar};
 ghost use Rattle.conditions.specs.Conditions.{entry_at, entry_failed_of, task_failed_of, failed_of};
@@ -24,10 +25,11 @@ pub fn entry_failed<P: Policy, M: Preemption, S: Supply>(
     deadlines: bool,
 ) -> Option<Cond>
     requires task { i < length sheet.now.tasks }
-    requires window { window ≤ 1000000000 }
-    requires bound { bound ≤ 1000000000 }
+    requires window { window ≤ greatest_number }
+    requires bound { bound ≤ greatest_number }
     requires served { Serves M.cuts sheet.now }
-    ensures { result ≡ entry_failed_of P.meaning M.cuts (S.sbf supply.now) sheet.now deadlines i window bound }
+    ensures { result ≡ entry_failed_of P.meaning M.cuts (S.sbf supply.now) sheet.now deadlines i
+        window bound }
 {
     if bound < sheet.task(i).jitter {
         return Some(Cond::K2);
@@ -63,7 +65,8 @@ fn task_failed<P: Policy, M: Preemption, S: Supply>(
     requires task { i < length sheet.now.tasks }
     requires fits { IsEntry entry.now }
     requires served { Serves M.cuts sheet.now }
-    ensures { result ≡ task_failed_of P.meaning M.cuts (S.sbf supply.now) sheet.now deadlines i entry.now }
+    ensures { result ≡ task_failed_of P.meaning M.cuts (S.sbf supply.now) sheet.now deadlines i
+        entry.now }
 {
     if let Some(cond) = entry_failed::<P, M, S>(
         sheet,

@@ -1,5 +1,6 @@
 //! The conditions of the points of an entry.
 ghost use Rattle.std.specs.Prelude.{◌≡◌, ◌≤◌, ◌<◌, ◌-◌, not, None, length, IfNone, All};
+ghost use Rattle.lists.specs.Limits.{greatest_number};
 ghost use Rattle.preemption.specs.CutLaws.{Serves};
 ghost use Rattle.search_space.specs.Points.{same_at};
 ghost use Rattle.certificate.specs.Text.{IsPoint};
@@ -19,7 +20,7 @@ use task_sheet::Sheet;
 pub fn gap_failed<P: Policy>(sheet: &Sheet, i: u32, p: u64, q: u64) -> bool
     requires task { i < length sheet.now.tasks }
     requires order { p < q }
-    requires end { q ≤ 1000000000 }
+    requires end { q ≤ greatest_number }
     ensures { result ≡ not (same_at P.meaning sheet.now i p (q - 1)) }
 {
     !is_same::<P>(sheet, i, p, q - 1)
@@ -39,12 +40,13 @@ pub fn point_failed<P: Policy, M: Preemption, S: Supply>(
     end: u64,
 ) -> Option<Failed>
     requires task { i < length sheet.now.tasks }
-    requires window { window ≤ 1000000000 }
-    requires bound { bound ≤ 1000000000 }
-    requires offset { offset ≤ 1000000000 }
-    requires end { end ≤ 1000000000 }
+    requires window { window ≤ greatest_number }
+    requires bound { bound ≤ greatest_number }
+    requires offset { offset ≤ greatest_number }
+    requires end { end ≤ greatest_number }
     requires served { Serves M.cuts sheet.now }
-    ensures first { result ≡ point_failed_of P.meaning M.cuts (S.sbf supply.now) sheet.now i window bound before offset end }
+    ensures first { result ≡ point_failed_of P.meaning M.cuts (S.sbf supply.now) sheet.now i window
+        bound before offset end }
     ensures below { IfNone result (offset < window) }
 {
     let is_next = match before {
@@ -83,11 +85,12 @@ pub fn points_failed<P: Policy, M: Preemption, S: Supply>(
     points: &[Point],
 ) -> Option<Failed>
     requires task { i < length sheet.now.tasks }
-    requires window { window ≤ 1000000000 }
-    requires bound { bound ≤ 1000000000 }
+    requires window { window ≤ greatest_number }
+    requires bound { bound ≤ greatest_number }
     requires points { All IsPoint points.now }
     requires served { Serves M.cuts sheet.now }
-    ensures { result ≡ points_failed_of P.meaning M.cuts (S.sbf supply.now) sheet.now i window bound None points.now }
+    ensures { result ≡ points_failed_of P.meaning M.cuts (S.sbf supply.now) sheet.now i window bound
+        None points.now }
 {
     let mut before = None;
     for point in points {

@@ -8,8 +8,8 @@ use Rattle.curve.specs.CurveValue.{Curve}
 use Rattle.curve.specs.Curves.{last_value, value_of, alpha_of}
 use Rattle.curve.specs.Rises.{next_time_of}
 use Rattle.curve.specs.Stairs.{IsSplit, IsLanding, IsStair}
-use Rattle.curve.specs.Validity.{RiseFrom, IsCurve, last_time}
-use Rattle.curve.proofs.CurveFacts.{value_mono}
+use Rattle.curve.specs.Validity.{IsCurve, last_time}
+use Rattle.curve.proofs.CurveFacts.{RiseFrom, value_mono}
 use Rattle.curve.proofs.RiseFacts.{last_time_kept, alpha_at, alpha_flat, next_near, next_rise_is}
 
 -- every step is later than what stands before it
@@ -18,7 +18,8 @@ step_later [] time value r j d h = absurd (omega arith)
 step_later (s ∷ steps) time value r zero d h = r.0
 step_later (s ∷ steps) time value r (suc j) d h = omega (arith, r.0, step_later steps s.time s.value r.2 j d (omega arith))
 
-pub times_rise : (steps : List Step) (time value : ℕ) → RiseFrom time value steps → (i j : ℕ) (d e : Step) → i ≤ j → j < length steps → (slice_index_or steps i d).time ≤ (slice_index_or steps j e).time
+pub times_rise : (steps : List Step) (time value : ℕ) → RiseFrom time value steps → (i j : ℕ) (d e : Step) → i ≤ j → j < length steps →
+    (slice_index_or steps i d).time ≤ (slice_index_or steps j e).time
 times_rise [] time value r i j d e h l = absurd (omega arith)
 times_rise (s ∷ steps) time value r zero zero d e h l = omega arith
 times_rise (s ∷ steps) time value r (suc i) zero d e h l = absurd (omega arith)
@@ -30,7 +31,8 @@ pub times_sorted : (steps : List Step) → RiseFrom 0 0 steps → IsNonDecreasin
 times_sorted steps rise = λ i j d h l. times_rise steps 0 0 rise i j d d h l
 
 -- so the two steps at a border tell of all
-pub split_here : (steps : List Step) (t n : ℕ) (d : Step) → RiseFrom 0 0 steps → (n ≡ 0 → ⊥) → n ≤ length steps → (slice_index_or steps (n - 1) d).time ≤ t → (n < length steps → t < (slice_index_or steps n d).time) → IsSplit steps t n
+pub split_here : (steps : List Step) (t n : ℕ) (d : Step) → RiseFrom 0 0 steps → (n ≡ 0 → ⊥) → n ≤ length steps → (slice_index_or steps (n - 1) d).time ≤ t →
+    (n < length steps → t < (slice_index_or steps n d).time) → IsSplit steps t n
 split_here steps t n d rise some within early late = record {
   within = within;
   early = λ k e h. omega (arith, early, times_rise steps 0 0 rise k (n - 1) e d (omega (arith, h)) (omega (arith, some, within)));
@@ -97,7 +99,8 @@ value_back : (c : Curve) → IsCurve c → (r y : ℕ) (l : Stair) → IsLanding
 unfolding value_of
 value_back c ok r y l landing low high = omega (arith, value_mono c ok l.from y low, value_mono c ok y r high, landing.since)
 
-stair_flat : (c : Curve) → IsCurve c → (q r y : ℕ) (l : Stair) → r < c.horizon → IsLanding c.horizon c.steps r l → l.from ≤ y → y < l.until → alpha_of c (q * c.horizon + y) ≡ q * value_of c c.horizon + value_of c r
+stair_flat : (c : Curve) → IsCurve c → (q r y : ℕ) (l : Stair) → r < c.horizon → IsLanding c.horizon c.steps r l → l.from ≤ y → y < l.until →
+    alpha_of c (q * c.horizon + y) ≡ q * value_of c c.horizon + value_of c r
 stair_flat c ok q r y l b landing low high = elim (cases_lt r y) [
   | inl after ↦
       let near = next_near c ok r in
@@ -105,7 +108,8 @@ stair_flat c ok q r y l b landing low high = elim (cases_lt r y) [
   | inr back ↦ omega (arith, alpha_at c ok q y (omega arith), value_back c ok r y l landing low back)
 ]
 
-stair_at : (c : Curve) → IsCurve c → (q r : ℕ) (l s : Stair) → r < c.horizon → IsLanding c.horizon c.steps r l → s.value ≡ q * value_of c c.horizon + l.value → s.from ≡ q * c.horizon + l.from → s.until ≡ q * c.horizon + l.until → IsStair c s (q * c.horizon + r)
+stair_at : (c : Curve) → IsCurve c → (q r : ℕ) (l s : Stair) → r < c.horizon → IsLanding c.horizon c.steps r l → s.value ≡ q * value_of c c.horizon + l.value →
+    s.from ≡ q * c.horizon + l.from → s.until ≡ q * c.horizon + l.until → IsStair c s (q * c.horizon + r)
 unfolding value_of
 stair_at c ok q r l s b landing value_is from_is until_is =
     let rise = (next_rise_is c ok q r b).holds in
@@ -119,7 +123,8 @@ stair_at c ok q r l s b landing value_is from_is until_is =
       higher = omega (arith, ap (alpha_of c) until, rise.higher, alpha_at c ok q r (omega arith), landing.value, value_is);
     }
 
-pub stair_is : (c : Curve) → IsCurve c → (d : ℕ) (l s : Stair) → IsLanding c.horizon c.steps (d % c.horizon) l → s.value ≡ d / c.horizon * value_of c c.horizon + l.value → s.from ≡ d - d % c.horizon + l.from → s.until ≡ d - d % c.horizon + l.until → IsStair c s d
+pub stair_is : (c : Curve) → IsCurve c → (d : ℕ) (l s : Stair) → IsLanding c.horizon c.steps (d % c.horizon) l →
+    s.value ≡ d / c.horizon * value_of c c.horizon + l.value → s.from ≡ d - d % c.horizon + l.from → s.until ≡ d - d % c.horizon + l.until → IsStair c s d
 stair_is c ok d l s landing value_is from_is until_is =
     let whole = div-add-mod' d c.horizon in
     subst (IsStair c s) whole (stair_at c ok (d / c.horizon) (d % c.horizon) l s (mod_below d c.horizon ok.horizon_low) landing value_is (omega (arith, whole, from_is)) (omega (arith, whole, until_is)))

@@ -3,15 +3,14 @@ ghost use Rattle.std.specs.Prelude.{◌≡◌, ◌+◌, ◌*◌, ◌%◌, ◌≤
 ghost use Rattle.curve.specs.Curves.{alpha_of, periodic as periodic_of, IsRise};
 ghost use Rattle.curve.specs.Stairs.{IsSplit, IsStair};
 ghost use Rattle.curve.specs.Validity.{IsCurve, prefix_check_of};
+ghost use Rattle.lists.specs.Limits.{greatest_number, greatest_value, greatest_length};
 ghost use Rattle.lists.specs.Searches.{IsLeastTo};
 
 use crate::checking::{CurveRefusal, are_in_range, do_rise, ends_by, starts_at_one};
 use crate::searching::{landing, last_value, next_time, steps_near, steps_to, top_value};
+use lists::limits::{GREATEST_LENGTH, GREATEST_NUMBER};
 use std::alloc::{AllocError, Global};
 use std::marker::Model;
-
-/// No later rise is looked for, in ticks.
-const LAST_RISE: u64 = 4_000_000_000;
 
 /// From `time` on, the value is `value`.
 #[derive(Clone, Copy, Debug, PartialEq, Eq)]
@@ -64,7 +63,7 @@ impl Prefix {
         ensures checked { result ≡ prefix_check_of horizon steps.items }
         ensures valid { IsOk result ↔ IsCurve (record { horizon = horizon; steps = steps.items }) }
     {
-        if horizon == 0 || horizon > 1_000_000_000 {
+        if horizon == 0 || horizon > GREATEST_NUMBER {
             return Err(CurveRefusal::Horizon);
         }
         if !are_in_range(&steps) {
@@ -86,7 +85,7 @@ impl Prefix {
     /// least a period apart.
     pub fn periodic(alloc: Global, period: u64) -> Result<Prefix, AllocError>
         requires low { 1 ≤ period }
-        requires high { period ≤ 1000000000 }
+        requires high { period ≤ greatest_number }
         ensures curve { IfOk result (λ prefix. prefix ≡ periodic_of period) }
         ensures valid { IfOk result IsCurve }
     {
@@ -116,7 +115,7 @@ impl Prefix {
     #[tactic(auto, unfolding(crate::specs::Curves::value_of, crate::specs::Curves::alpha_of))]
     pub fn at(&self, d: u64) -> u128
         ensures alpha { result ≡ alpha_of self.now d }
-        ensures bound { result ≤ (d + 1) * 1000000 }
+        ensures bound { result ≤ (d + 1) * greatest_value }
     {
         let whole = (d / self.horizon) as u128 * top_value(&self.steps, self.horizon) as u128;
         whole + last_value(&self.steps, d % self.horizon) as u128
@@ -124,19 +123,23 @@ impl Prefix {
 
     /// The least later length, up to 4·10^9, at which more jobs may arrive than in `d` ticks.
     pub fn next_rise(&self, d: u64) -> Option<u64>
-        ensures { IsLeastTo (IsRise self.now d) 4000000000 result }
+        ensures { IsLeastTo (IsRise self.now d) greatest_length result }
     {
-        if d >= LAST_RISE {
+        if d >= GREATEST_LENGTH {
             return None;
         }
         let begun = d % self.horizon;
         let next = d - begun + next_time(&self.steps, begun, self.horizon);
-        if next <= LAST_RISE { Some(next) } else { None }
+        if next <= GREATEST_LENGTH {
+            Some(next)
+        } else {
+            None
+        }
     }
 
     /// The stair on which the curve stands at `d` ticks, by a search among the steps.
     pub fn stair(&self, d: u64) -> Stair
-        requires { d ≤ 4000000000 }
+        requires { d ≤ greatest_length }
         ensures { IsStair self.now result d }
     {
         self.stair_of(d, steps_to(&self.steps, d % self.horizon))
@@ -144,7 +147,7 @@ impl Prefix {
 
     /// The same, from a stair of the curve: it stays there, goes one step on, or searches.
     pub fn stair_to(&self, stair: Stair, d: u64) -> Stair
-        requires length { d ≤ 4000000000 }
+        requires length { d ≤ greatest_length }
         requires before { (e : ℕ) × IsStair self.now stair e }
         ensures { IsStair self.now result d }
     {
@@ -161,7 +164,7 @@ impl Prefix {
 
     /// The stair at `d`, where so many steps have come since the last whole horizon.
     fn stair_of(&self, d: u64, come: usize) -> Stair
-        requires length { d ≤ 4000000000 }
+        requires length { d ≤ greatest_length }
         requires come { IsSplit self.now.steps (d % self.now.horizon) come }
         ensures { IsStair self.now result d }
     {

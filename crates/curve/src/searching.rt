@@ -1,15 +1,16 @@
 //! Searches among the steps of a prefix, within one horizon.
-ghost use Rattle.std.specs.Prelude.{◌≡◌, ◌≤◌};
+ghost use Rattle.std.specs.Prelude.{◌≡◌, ◌≤◌, true};
 ghost use Rattle.curve.specs.Curves.{last_value as last_value_of};
 ghost use Rattle.curve.specs.Rises.{next_time_of};
 ghost use Rattle.curve.specs.Stairs.{IsSplit, IsLanding};
-ghost use Rattle.curve.specs.Validity.{RiseFrom, StartsAtOne, last_time};
+ghost use Rattle.lists.specs.Limits.{greatest_number};
+ghost use Rattle.curve.specs.Validity.{rise_from, starts_at_one, last_time};
 
 use crate::prefix::{Stair, Step};
 
 /// How many of the steps have come by time `t`.
 pub fn steps_to(steps: &[Step], t: u64) -> usize
-    requires { RiseFrom 0 0 steps.now }
+    requires { rise_from 0 0 steps.now ≡ true }
     ensures { IsSplit steps.now t result }
 {
     steps.partition_point(|step| step.time <= t)
@@ -17,7 +18,7 @@ pub fn steps_to(steps: &[Step], t: u64) -> usize
 
 /// The same, sooner where the guess is right.
 pub fn steps_near(steps: &[Step], t: u64, guess: usize) -> usize
-    requires { RiseFrom 0 0 steps.now }
+    requires { rise_from 0 0 steps.now ≡ true }
     ensures { IsSplit steps.now t result }
 {
     if guess == 0 || guess > steps.len() || steps[guess - 1].time > t {
@@ -31,7 +32,7 @@ pub fn steps_near(steps: &[Step], t: u64, guess: usize) -> usize
 
 /// The value at time `t`, by the last of the steps that have come, and 0 where none has.
 pub fn last_value(steps: &[Step], t: u64) -> u64
-    requires { RiseFrom 0 0 steps.now }
+    requires { rise_from 0 0 steps.now ≡ true }
     ensures { result ≡ last_value_of 0 steps.now t }
 {
     let come = steps_to(steps, t);
@@ -40,8 +41,8 @@ pub fn last_value(steps: &[Step], t: u64) -> u64
 
 /// The value of the last step, which has come by the horizon.
 pub fn top_value(steps: &[Step], horizon: u64) -> u64
-    requires some { StartsAtOne steps.now }
-    requires rising { RiseFrom 0 0 steps.now }
+    requires some { starts_at_one steps.now ≡ true }
+    requires rising { rise_from 0 0 steps.now ≡ true }
     requires within { last_time 0 steps.now ≤ horizon }
     ensures { result ≡ last_value_of 0 steps.now horizon }
 {
@@ -53,8 +54,8 @@ pub fn top_value(steps: &[Step], horizon: u64) -> u64
 
 /// The time of the first step after `begun`, or the tick after the horizon.
 pub fn next_time(steps: &[Step], begun: u64, horizon: u64) -> u64
-    requires horizon { horizon ≤ 1000000000 }
-    requires rising { RiseFrom 0 0 steps.now }
+    requires horizon { horizon ≤ greatest_number }
+    requires rising { rise_from 0 0 steps.now ≡ true }
     ensures { result ≡ next_time_of horizon steps.now begun }
 {
     time_of(steps, begun, horizon, steps_to(steps, begun))
@@ -62,7 +63,7 @@ pub fn next_time(steps: &[Step], begun: u64, horizon: u64) -> u64
 
 /// The same, where so many steps have come.
 fn time_of(steps: &[Step], begun: u64, horizon: u64, come: usize) -> u64
-    requires horizon { horizon ≤ 1000000000 }
+    requires horizon { horizon ≤ greatest_number }
     requires come { IsSplit steps.now begun come }
     ensures { result ≡ next_time_of horizon steps.now begun }
 {
@@ -75,8 +76,8 @@ fn time_of(steps: &[Step], begun: u64, horizon: u64, come: usize) -> u64
 
 /// The stair of the steps at `begun`, where so many steps have come.
 pub fn landing(steps: &[Step], begun: u64, horizon: u64, come: usize) -> Stair
-    requires horizon { horizon ≤ 1000000000 }
-    requires rising { RiseFrom 0 0 steps.now }
+    requires horizon { horizon ≤ greatest_number }
+    requires rising { rise_from 0 0 steps.now ≡ true }
     requires come { IsSplit steps.now begun come }
     ensures { IsLanding horizon steps.now begun result }
 {

@@ -143,7 +143,8 @@ module _ (p : PolicyMeaning) (m : CutMeaning) (sheet : SheetParts) (ok : IsValid
   parts_are = omega (arith, sum_join own other (length sheet.tasks) i in_range)
 
   -- a blocker that does not delay has no other demand
-  blocker_fits : (o : ℕ) → o < length sheet.tasks → o ≢ i → AdmitsNone (p.cap sheet i o a) → sum_below part (length sheet.tasks) + (m.longest (task_at sheet o) - 1) ≤ sum_below (class_part_of p sheet i l) (length sheet.tasks)
+  blocker_fits : (o : ℕ) → o < length sheet.tasks → o ≢ i → AdmitsNone (p.cap sheet i o a) →
+      sum_below part (length sheet.tasks) + (m.longest (task_at sheet o) - 1) ≤ sum_below (class_part_of p sheet i l) (length sheet.tasks)
   blocker_fits o b ne none =
       let task = task_at sheet o in
       let class : p.class sheet i o ≡ true = elim (cases_Bool (p.class sheet i o)) [

@@ -61,7 +61,7 @@ module _ (p : PolicyMeaning) (sheet : SheetParts) (i from at : ℕ) (same : IsSa
 
 -- the need at an offset that no number tells apart from an earlier one
 module _ (p : PolicyMeaning) (m : CutMeaning) (sheet : SheetParts) (ok : IsValidSheet sheet) (lawful : IsLawfulPolicy p sheet) (i : ℕ) (in_range : i < length sheet.tasks) where
-  block_less : (from a : ℕ) → from ≤ a → blocking_of p m sheet i a ≤ blocking_of p m sheet i from
+  pub block_less : (from a : ℕ) → from ≤ a → blocking_of p m sheet i a ≤ blocking_of p m sheet i from
   unfolding blocking_of
   block_less from a h = max_at_most _ _ (length sheet.tasks) (λ o b. implied_le _ _ _ (λ t.
       let parts = and_parts (not (o == i)) (p.may_block sheet i o a) t in

@@ -58,7 +58,8 @@ module _ (p : PolicyMeaning) (m : CutMeaning) (sbf : ℕ → ℕ) (sheet : Sheet
     ]
 
     -- where the listed points meet the conditions, the end of the last one up to an offset serves there
-    pub end_serves : (first : ℕ × ℕ) (points : List (ℕ × ℕ)) (a : ℕ) → PointsMeet p m sbf sheet i window bound None (first ∷ points) → a < window → MeetsAt p m sbf sheet i bound a (end_for first.1 points a)
+    pub end_serves : (first : ℕ × ℕ) (points : List (ℕ × ℕ)) (a : ℕ) → PointsMeet p m sbf sheet i window bound None (first ∷ points) → a < window →
+        MeetsAt p m sbf sheet i bound a (end_for first.1 points a)
     end_serves first points a meet l = meets_from first points a meet.0.end meet.0.within meet.1 (omega (arith, meet.0.next)) l
 
     pub every_offset : (points : List (ℕ × ℕ)) → 1 ≤ length points → PointsMeet p m sbf sheet i window bound None points → EveryOffset p m sbf sheet i window bound

@@ -1,5 +1,6 @@
 //! What the tasks of a sheet can ask for.
 ghost use Rattle.std.specs.Prelude.{◌≡◌, ◌≤◌, ◌<◌, ◌^◌, length};
+ghost use Rattle.lists.specs.Limits.{greatest_number};
 ghost use Rattle.lists.specs.Sums.{sum_below, max_below};
 ghost use Rattle.preemption.specs.CutLaws.{Serves};
 ghost use Rattle.demand.specs.Demand.{rest_of, own_of, others_of, blocking_of, need_of, delay_of, class_part_of, window_need_of};
@@ -15,7 +16,7 @@ pub fn rest<M: Preemption>(sheet: &Sheet, i: u32) -> u64
     requires task { i < length sheet.now.tasks }
     requires served { Serves M.cuts sheet.now }
     ensures exact { result ≡ rest_of M.cuts sheet.now i }
-    ensures bound { result ≤ 1000000000 }
+    ensures bound { result ≤ greatest_number }
 {
     let task = sheet.task(i);
     task.cost - M::threshold(task)
@@ -26,7 +27,7 @@ pub fn rest<M: Preemption>(sheet: &Sheet, i: u32) -> u64
 #[tactic(auto, using(crate::proofs::DemandFacts::rest_fits, task_sheet::specs::Limits::jitter_high), unfolding(crate::specs::Demand::own_of))]
 pub fn own<M: Preemption>(sheet: &Sheet, i: u32, a: u64) -> u128
     requires task { i < length sheet.now.tasks }
-    requires offset { a ≤ 1000000000 }
+    requires offset { a ≤ greatest_number }
     requires served { Serves M.cuts sheet.now }
     ensures exact { result ≡ own_of M.cuts sheet.now i a }
     ensures bound { result ≤ 2 ^ 81 }
@@ -39,8 +40,8 @@ pub fn own<M: Preemption>(sheet: &Sheet, i: u32, a: u64) -> u128
 #[tactic(auto, unfolding(crate::specs::Demand::others_of))]
 pub fn others<P: Policy>(sheet: &Sheet, i: u32, a: u64, x: u64) -> u128
     requires task { i < length sheet.now.tasks }
-    requires offset { a ≤ 1000000000 }
-    requires within { x ≤ 1000000000 }
+    requires offset { a ≤ greatest_number }
+    requires within { x ≤ greatest_number }
     ensures exact { result ≡ others_of P.meaning sheet.now i a x }
     ensures bound { result ≤ 2 ^ 92 }
 {
@@ -58,10 +59,10 @@ pub fn others<P: Policy>(sheet: &Sheet, i: u32, a: u64, x: u64) -> u128
 #[tactic(auto, unfolding(crate::specs::Demand::blocking_of))]
 pub fn blocking<P: Policy, M: Preemption>(sheet: &Sheet, i: u32, a: u64) -> u128
     requires task { i < length sheet.now.tasks }
-    requires offset { a ≤ 1000000000 }
+    requires offset { a ≤ greatest_number }
     requires served { Serves M.cuts sheet.now }
     ensures exact { result ≡ blocking_of P.meaning M.cuts sheet.now i a }
-    ensures bound { result ≤ 1000000000 }
+    ensures bound { result ≤ greatest_number }
 {
     let mut longest: u64 = 0;
     for o in 0..sheet.len() {
@@ -75,8 +76,8 @@ pub fn blocking<P: Policy, M: Preemption>(sheet: &Sheet, i: u32, a: u64) -> u128
 #[tactic(auto, unfolding(crate::specs::Demand::need_of))]
 pub fn need<P: Policy, M: Preemption>(sheet: &Sheet, i: u32, a: u64, x: u64) -> u128
     requires task { i < length sheet.now.tasks }
-    requires offset { a ≤ 1000000000 }
-    requires within { x ≤ 1000000000 }
+    requires offset { a ≤ greatest_number }
+    requires within { x ≤ greatest_number }
     requires served { Serves M.cuts sheet.now }
     ensures exact { result ≡ need_of P.meaning M.cuts sheet.now i a x }
     ensures bound { result ≤ 2 ^ 93 }
@@ -88,8 +89,9 @@ pub fn need<P: Policy, M: Preemption>(sheet: &Sheet, i: u32, a: u64, x: u64) -> 
 fn longest_delay<P: Policy, M: Preemption>(sheet: &Sheet, i: u32) -> u64
     requires task { i < length sheet.now.tasks }
     requires served { Serves M.cuts sheet.now }
-    ensures exact { result ≡ max_below (delay_of P.meaning M.cuts sheet.now i) (length sheet.now.tasks) }
-    ensures bound { result ≤ 1000000000 }
+    ensures exact { result ≡ max_below (delay_of P.meaning M.cuts sheet.now i)
+        (length sheet.now.tasks) }
+    ensures bound { result ≤ greatest_number }
 {
     let mut longest: u64 = 0;
     for o in 0..sheet.len() {
@@ -102,8 +104,9 @@ fn longest_delay<P: Policy, M: Preemption>(sheet: &Sheet, i: u32) -> u64
 #[tactic(auto, using(task_sheet::specs::Limits::jitter_high))]
 fn class_demand<P: Policy>(sheet: &Sheet, i: u32, l: u64) -> u128
     requires task { i < length sheet.now.tasks }
-    requires window { l ≤ 1000000000 }
-    ensures exact { result ≡ sum_below (class_part_of P.meaning sheet.now i l) (length sheet.now.tasks) }
+    requires window { l ≤ greatest_number }
+    ensures exact { result ≡ sum_below (class_part_of P.meaning sheet.now i l)
+        (length sheet.now.tasks) }
     ensures bound { result ≤ 2 ^ 92 }
 {
     let mut sum = 0;
@@ -120,7 +123,7 @@ fn class_demand<P: Policy>(sheet: &Sheet, i: u32, l: u64) -> u128
 #[tactic(auto, unfolding(crate::specs::Demand::window_need_of))]
 pub fn window_need<P: Policy, M: Preemption>(sheet: &Sheet, i: u32, l: u64) -> u128
     requires task { i < length sheet.now.tasks }
-    requires window { l ≤ 1000000000 }
+    requires window { l ≤ greatest_number }
     requires served { Serves M.cuts sheet.now }
     ensures exact { result ≡ window_need_of P.meaning M.cuts sheet.now i l }
     ensures bound { result ≤ 2 ^ 93 }

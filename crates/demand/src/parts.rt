@@ -1,5 +1,6 @@
 //! What one task can ask for.
 ghost use Rattle.std.specs.Prelude.{◌≡◌, ◌≤◌, ◌+◌, ◌-◌, ◌*◌, ◌^◌, ◌<◌, length, true};
+ghost use Rattle.lists.specs.Limits.{greatest_number};
 ghost use Rattle.curve.specs.Curves.{alpha_of};
 ghost use Rattle.task_sheet.specs.Sheets.{task_at, IsTask};
 ghost use Rattle.preemption.specs.CutLaws.{Serves};
@@ -24,7 +25,7 @@ pub fn asked(task: &Task, d: u64) -> u128
 #[tactic(auto, using(task_sheet::specs::Limits::jitter_high))]
 pub fn asked_within(task: &Task, cap: Cap, x: u64) -> u128
     requires valid { IsTask task.now }
-    requires window { x ≤ 1000000000 }
+    requires window { x ≤ greatest_number }
     ensures exact { result ≡ task.now.cost * capped_count task.now.curve task.now.jitter cap x }
     ensures bound { result ≤ 2 ^ 81 }
 {
@@ -44,7 +45,7 @@ fn begun<M: Preemption>(sheet: &Sheet, o: u32) -> u64
     requires task { o < length sheet.now.tasks }
     requires served { Serves M.cuts sheet.now }
     ensures exact { result ≡ M.cuts.longest (task_at sheet.now o) - 1 }
-    ensures bound { result ≤ 1000000000 }
+    ensures bound { result ≤ greatest_number }
 {
     M::longest(sheet.task(o)) - 1
 }
@@ -54,10 +55,10 @@ fn begun<M: Preemption>(sheet: &Sheet, o: u32) -> u64
 pub fn block<P: Policy, M: Preemption>(sheet: &Sheet, i: u32, a: u64, o: u32) -> u64
     requires i { i < length sheet.now.tasks }
     requires o { o < length sheet.now.tasks }
-    requires offset { a ≤ 1000000000 }
+    requires offset { a ≤ greatest_number }
     requires served { Serves M.cuts sheet.now }
     ensures exact { result ≡ block_of P.meaning M.cuts sheet.now i a o }
-    ensures bound { result ≤ 1000000000 }
+    ensures bound { result ≤ greatest_number }
 {
     if o != i && P::may_block(sheet, i, o, a) {
         begun::<M>(sheet, o)
@@ -72,7 +73,7 @@ pub fn delay<P: Policy, M: Preemption>(sheet: &Sheet, i: u32, o: u32) -> u64
     requires o { o < length sheet.now.tasks }
     requires served { Serves M.cuts sheet.now }
     ensures exact { result ≡ delay_of P.meaning M.cuts sheet.now i o }
-    ensures bound { result ≤ 1000000000 }
+    ensures bound { result ≤ greatest_number }
 {
     if o != i && P::may_delay(sheet, i, o) {
         begun::<M>(sheet, o)

@@ -10,7 +10,6 @@ use Rattle.lists.specs.Ranges.{is_between}
 use Rattle.curve.proofs.CurveFacts.{periodic_valid}
 use Rattle.task_sheet.specs.Limits.{no_point}
 use Rattle.task_sheet.specs.Rules.{is_name, is_in_range, are_in_range}
-use Rattle.task_sheet.specs.Limits.{no_point}
 use Rattle.task_sheet.specs.Sheets.{CutFits, IsTask}
 use Rattle.task_sheet.proofs.RuleFacts.{positive_from}
 use Rattle.exercise.specs.GeneratedSheet.{halves, cut_by, task_by}

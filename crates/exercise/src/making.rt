@@ -1,5 +1,6 @@
 //! The sheet that a seed makes.
 ghost use Rattle.std.specs.Prelude.{◌≡◌, ◌+◌, ◌*◌, ◌%◌, ◌≤◌, ◌<◌, IfOk};
+ghost use Rattle.lists.specs.Limits.{greatest_number};
 ghost use Rattle.simulated_run.specs.Words.{word, next};
 ghost use Rattle.exercise.specs.GeneratedSheet.{cut_by, halves as halves_of, task_by, generated_sheet};
 
@@ -45,8 +46,8 @@ fn draw(words: &mut SplitMix64, most: u64) -> u64
 /// Task `i`, with this period as its deadline.
 fn make_task(alloc: Global, i: u32, period: u64, cost: u64) -> Result<Task, AllocError>
     requires low { 1 ≤ period }
-    requires high { period ≤ 1000000000 }
-    requires cost { cost ≤ 1000000000 }
+    requires high { period ≤ greatest_number }
+    requires cost { cost ≤ greatest_number }
     ensures { IfOk result (λ task. task ≡ task_by i period cost) }
 {
     Ok(Task {
@@ -63,7 +64,7 @@ fn make_task(alloc: Global, i: u32, period: u64, cost: u64) -> Result<Task, Allo
 
 /// The four kinds of cuts take turns.
 fn make_cut(alloc: Global, i: u32, cost: u64) -> Result<Cut, AllocError>
-    requires { cost ≤ 1000000000 }
+    requires { cost ≤ greatest_number }
     ensures { IfOk result (λ cut. cut ≡ cut_by (i % 4) cost) }
 {
     match i % 4 {

@@ -2,7 +2,7 @@
 use Rattle.std.proofs.Common.{◌≡◌, ◌≢◌, ℕ, zero, suc, ◌<◌, ◌≤◌, ◌⊎◌, ◌&&◌, Bool, true, false, cond, Option, Some, None, refl, sym, ◌∙◌, ap, subst, inl, inr, arith}
 use Rattle.std.proofs.lemmas.Bool.{cases_Bool, cases_lt, and_parts, and_from, and_left, and_right}
 use Rattle.lists.specs.Firsts.{must, first_below}
-use Rattle.lists.specs.Searches.{greatest_to, best_below}
+use Rattle.lists.specs.Searches.{OnlyFails, greatest_to, best_below}
 use Rattle.lists.proofs.FirstFacts.{must_from, must_fails}
 
 -- a decided fact holds of every number below n, or its contrary holds of one
@@ -54,6 +54,11 @@ least_true test n h = elim (first_true test (suc n)) [
 -- from the numbers below n, and n, to those below n + 1
 pub one_more : {P : ℕ → Type 0} (n : ℕ) → ((k : ℕ) → k < n → P k) → P n → (k : ℕ) → k < suc n → P k
 one_more {P} n below last k h = elim (cases_lt k n) [ inl c ↦ below k c | inr c ↦ let e : n ≡ k = omega arith in subst P e last ]
+
+-- tests that agree are failed alone by the same number
+pub only_same : (test new : ℕ → Bool) (n : ℕ) (x : Option ℕ) → ((k : ℕ) → k < n → new k ≡ test k) → OnlyFails test n x → OnlyFails new n x
+only_same test new n None same h = λ k b. same k b ∙ h k b
+only_same test new n (Some j) same h = (h.0, same j h.0 ∙ h.1, (λ k b ne. same k b ∙ h.2 k b ne))
 
 -- the greatest number that passes
 
@@ -194,7 +199,8 @@ best_found test before n k e = elim (best_cases test before n) [
 ]
 
 -- the one that comes before all others that pass is found
-pub best_some : (test : ℕ → Bool) (before : ℕ → ℕ → Bool) (j n : ℕ) → j < n → test j ≡ true → ((k : ℕ) → k < n → test k ≡ true → k ≢ j → (before j k ≡ true) × (before k j ≡ false)) → best_below test before n ≡ Some j
+pub best_some : (test : ℕ → Bool) (before : ℕ → ℕ → Bool) (j n : ℕ) → j < n → test j ≡ true →
+    ((k : ℕ) → k < n → test k ≡ true → k ≢ j → (before j k ≡ true) × (before k j ≡ false)) → best_below test before n ≡ Some j
 best_some test before j zero h t b = absurd (omega arith)
 best_some test before j (suc n) h t b = elim (cases_lt j n) [
   | inl c ↦
@@ -234,7 +240,8 @@ no_best test before (suc n) k none h = elim (best_cases test before n) [
 ]
 
 -- none that passes comes before the one that is found, where to come before is the opposite of a transitive order
-pub best_first : (test : ℕ → Bool) (before : ℕ → ℕ → Bool) (n j k : ℕ) → ((a b c : ℕ) → before a b ≡ true → before c b ≡ false → before c a ≡ false) → ((a : ℕ) → before a a ≡ false) → best_below test before n ≡ Some j → k < n → test k ≡ true → before k j ≡ false
+pub best_first : (test : ℕ → Bool) (before : ℕ → ℕ → Bool) (n j k : ℕ) → ((a b c : ℕ) → before a b ≡ true → before c b ≡ false → before c a ≡ false) →
+    ((a : ℕ) → before a a ≡ false) → best_below test before n ≡ Some j → k < n → test k ≡ true → before k j ≡ false
 best_first test before zero j k chain self e h t = absurd (omega arith)
 best_first test before (suc n) j k chain self e h t = elim (best_cases test before n) [
   | inr none ↦ elim (cases_Bool (test n)) [

@@ -3,6 +3,10 @@ use Rattle.std.proofs.lemmas.Bool.{cases_lt, ne_eqb}
 use Rattle.std.proofs.lemmas.List.Sums.{count_by_more_yes, count_by_more_no}
 use Rattle.lists.specs.Sums.{sum_below, max_below}
 
+pub at_most_one : (b : Bool) → cond {A = ℕ} b 1 0 ≤ 1
+at_most_one true = omega arith
+at_most_one false = omega arith
+
 -- a masked term does not fall as the term grows
 pub cond_mono : (b : Bool) (m n : ℕ) → m ≤ n → cond b m 0 ≤ cond b n 0
 cond_mono true m n h = h

@@ -3,3 +3,4 @@ pub mod Searches
 pub mod Lending
 pub mod Ranges
 pub mod Firsts
+pub mod Limits

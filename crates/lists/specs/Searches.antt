@@ -1,5 +1,5 @@
 -- Searches among numbers.
-use Rattle.std.specs.Prelude.{ℕ, zero, suc, ◌<◌, ◌≤◌, ◌&&◌, Bool, cond, Option, Some, None}
+use Rattle.std.specs.Prelude.{◌≡◌, ◌≢◌, ℕ, zero, suc, ◌<◌, ◌≤◌, ◌&&◌, Bool, true, false, cond, Option, Some, None}
 
 -- n has the property, and no smaller number has it
 pub record IsLeast (P : ℕ → Type 0) (n : ℕ) : Type 0 where
@@ -15,6 +15,11 @@ IsLeastTo P limit (Some n) = (n ≤ limit) × IsLeast P n
 abbrev pub IsFirstBelow : (ℕ → Type 0) → ℕ → Option ℕ → Type 0
 IsFirstBelow P count None = (k : ℕ) → k < count → P k → ⊥
 IsFirstBelow P count (Some n) = (n < count) × P n × ((k : ℕ) → k < n → P k → ⊥)
+
+-- of the numbers below a count only this one, if any, fails the test
+abbrev pub OnlyFails : (ℕ → Bool) → ℕ → Option ℕ → Type 0
+OnlyFails test count None = (k : ℕ) → k < count → test k ≡ true
+OnlyFails test count (Some n) = (n < count) × (test n ≡ false) × ((k : ℕ) → k < count → k ≢ n → test k ≡ true)
 
 -- the greatest number up to n that passes, else 0
 abbrev pub greatest_to : (ℕ → Bool) → ℕ → ℕ

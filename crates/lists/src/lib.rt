@@ -2,5 +2,6 @@
 #![tactic(auto)]
 
 mod items;
+pub mod limits;
 
 pub use items::{Items, Text};

@@ -9,7 +9,7 @@ use Rattle.certificate.specs.declared.cert.Cert.{Cert}
 use Rattle.certificate.specs.Text.{IsWithinGrammar, text_of}
 use Rattle.conditions.specs.Conditions.{failed_of}
 use Rattle.cert_check.specs.declared.judging.Verdict.TheVariants as verdict
-use Rattle.cert_check.specs.Verdicts.{bounds_of, verdict_of}
+use Rattle.cert_check.specs.Verdicts.{bounds_of, cert_verdict_of}
 use Rattle.cert_check.specs.Laws.{MeetingIsAccepted, AcceptedIsSound}
 use Rattle.solver.specs.declared.analysis.AnalyseRefusal.{AnalyseRefusal}
 use Rattle.solver.specs.Best.{points_to, IsBest, IsUpTo, NoneSmaller}
@@ -23,7 +23,7 @@ module _ (p : PolicyMeaning) (sheet : SheetParts) (horizon : ℕ) where
       IfOk r (λ cert. failed_of p per_task_meaning (sbf_of sheet.supply) sheet false cert ≡ None) → IfOk r IsWithinGrammar → IfOk r (IsUpTo horizon) → IfOk r (NoneSmaller p per_task_meaning (sbf_of sheet.supply) sheet) →
       IfOk r (IsBestBy p sheet horizon)
   best_from accepts sound valid (Ok cert) best meets within up_to least =
-      let accepted : verdict_of p per_task_meaning (sbf_of sheet.supply) sheet false (text_of cert) ≡ verdict.Accepted (bounds_of cert) = accepts sheet false cert within meets in
+      let accepted : cert_verdict_of p per_task_meaning (sbf_of sheet.supply) sheet false (text_of cert) ≡ verdict.Accepted (bounds_of cert) = accepts sheet false cert within meets in
       record {
         within = within;
         up_to = up_to;

@@ -9,7 +9,7 @@ use Rattle.supply.specs.Promises.{sbf_of}
 use Rattle.certificate.specs.declared.cert.Cert.{Cert}
 use Rattle.certificate.specs.Text.{IsWithinGrammar, text_of}
 use Rattle.cert_check.specs.declared.judging.Verdict.TheVariants as verdict
-use Rattle.cert_check.specs.Verdicts.{bounds_of, verdict_of, AreSound}
+use Rattle.cert_check.specs.Verdicts.{bounds_of, cert_verdict_of, AreSound}
 use Rattle.solver.specs.declared.analysis.Part.{Part}
 use Rattle.solver.specs.declared.analysis.AnalyseRefusal.{AnalyseRefusal}
 use Rattle.solver.specs.declared.analysis.AnalyseRefusal.TheVariants as solver
@@ -28,7 +28,7 @@ pub record IsBestBy (p : PolicyMeaning) (sheet : SheetParts) (horizon : ℕ) (ce
   pub within : IsWithinGrammar cert
   pub up_to : IsUpTo horizon cert
   pub short : length (text_of cert) ≤ limit_of source.Certificate
-  pub accepted : verdict_of p per_task_meaning (sbf_of sheet.supply) sheet false (text_of cert) ≡ verdict.Accepted (bounds_of cert)
+  pub accepted : cert_verdict_of p per_task_meaning (sbf_of sheet.supply) sheet false (text_of cert) ≡ verdict.Accepted (bounds_of cert)
   pub sound : AreSound p per_task_meaning (sbf_of sheet.supply) sheet false (bounds_of cert)
   pub least : NoneSmaller p per_task_meaning (sbf_of sheet.supply) sheet cert
 

@@ -11,7 +11,7 @@ use Rattle.preemption.specs.Kinds.{per_task_meaning}
 use Rattle.supply.specs.Promises.{sbf_of}
 use Rattle.cert_check.specs.declared.judging.Verdict.{Verdict}
 use Rattle.cert_check.specs.declared.judging.Verdict.TheVariants as verdict
-use Rattle.cert_check.specs.Verdicts.{verdict_of}
+use Rattle.cert_check.specs.Verdicts.{cert_verdict_of}
 use Rattle.certificate.specs.declared.cert.Cert.{Cert}
 use Rattle.certificate.specs.Text.{text_of}
 use Rattle.solver.specs.declared.analysis.AnalyseRefusal.{AnalyseRefusal}
@@ -50,7 +50,7 @@ sheet_in name files = next (file_in source.Sheet name files) sheet_by
 
 -- the verdict over the bytes of a certificate, by the sheet's own policy, preemption and supply
 abbrev pub sheet_verdict : SheetParts → Bool → List ℕ → Verdict
-sheet_verdict sheet deadlines bytes = verdict_of (meaning_of sheet.policy) per_task_meaning (sbf_of sheet.supply) sheet deadlines bytes
+sheet_verdict sheet deadlines bytes = cert_verdict_of (meaning_of sheet.policy) per_task_meaning (sbf_of sheet.supply) sheet deadlines bytes
 
 -- what is printed of a verdict
 abbrev pub judged_by : SheetParts → Verdict → Ending

@@ -3,7 +3,7 @@ use Rattle.std.specs.Prelude.{◌≡◌, ℕ, List, [], ◌∷◌, ◌++◌, len
 use Rattle.task_sheet.specs.declared.tasks.Task.{Task}
 use Rattle.task_sheet.specs.SheetParts.{SheetParts}
 use Rattle.audit.specs.declared.verdict.Rule.{Rule}
-use Rattle.audit.specs.declared.verdict.Rule.TheVariants.{Fit, Valid, Curve, Supply, Idle, Segment, Priority}
+use Rattle.audit.specs.declared.verdict.Rule.TheVariants.{Fit, Release, Valid, Curve, Supply, Idle, Segment, Priority}
 use Rattle.audit.specs.declared.verdict.Seen.{Seen}
 use Rattle.audit.specs.declared.verdict.AuditVerdict.{AuditVerdict}
 use Rattle.audit.specs.declared.verdict.AuditVerdict.TheVariants.{Compliant, Broken}
@@ -27,6 +27,7 @@ compliant_text sheet seen = codes "compliant\n" ++ seen_text sheet.tasks seen
 
 abbrev pub rule_word : Rule → List ℕ
 rule_word Fit = codes "fit"
+rule_word Release = codes "release"
 rule_word Valid = codes "valid"
 rule_word Curve = codes "curve"
 rule_word Supply = codes "supply"

@@ -1,4 +1,5 @@
 use Rattle.std.specs.Prelude.{◌≡◌, ◌≤◌, ◌&&◌, List, [], ◌∷◌, ℕ, Bool, true, false, Option, Some, None, codes, bytes_eq, if◌then◌else◌}
+use Rattle.lists.specs.Limits.{greatest_number, most_ticks}
 use Rattle.poet_io.specs.Decimals.{number_in}
 use Rattle.simulated_run.specs.declared.mode.Mode.{Mode}
 use Rattle.simulated_run.specs.declared.mode.Mode.TheVariants.{Dense, Seed}
@@ -18,10 +19,10 @@ pub data Asked : Type 0 where
 
 -- a horizon, a number of ticks, a number of tasks, and a seed
 abbrev pub horizon_in : List ℕ → Option ℕ
-horizon_in word = number_in 1 1000000000 word
+horizon_in word = number_in 1 greatest_number word
 
 abbrev pub ticks_in : List ℕ → Option ℕ
-ticks_in word = number_in 1 100000 word
+ticks_in word = number_in 1 most_ticks word
 
 abbrev pub tasks_in : List ℕ → Option ℕ
 tasks_in word = number_in 1 64 word
@@ -95,8 +96,8 @@ IsCommand words command = IsAsked (command_in words) command
 -- the numbers of a command are in their ranges
 abbrev pub IsInRange : Command → Type 0
 IsInRange (Check sheet certificate deadlines) = Unit {0}
-IsInRange (Analyse sheet horizon) = horizon ≤ 1000000000
-IsInRange (Simulate sheet mode ticks) = ticks ≤ 100000
+IsInRange (Analyse sheet horizon) = horizon ≤ greatest_number
+IsInRange (Simulate sheet mode ticks) = ticks ≤ most_ticks
 IsInRange (Audit sheet run) = Unit {0}
 IsInRange (Report sheet certificate form) = Unit {0}
 IsInRange (Exercise seed tasks) = (1 ≤ tasks) × (tasks ≤ 64)

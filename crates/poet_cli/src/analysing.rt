@@ -1,5 +1,6 @@
 //! How `analyse` ends.
 ghost use Rattle.std.specs.Prelude.{◌≡◌, ◌≤◌, IfOk, IfErr};
+ghost use Rattle.lists.specs.Limits.{greatest_number};
 ghost use Rattle.policy.specs.PolicyMeaning.{PolicyMeaning};
 ghost use Rattle.policy.specs.Policies.{meaning_of};
 ghost use Rattle.preemption.specs.Kinds.{per_task_meaning};
@@ -28,7 +29,7 @@ use task_sheet::{PolicyKind, Sheet};
 
 /// The best certificate by a policy, and the sheet's own preemption and supply.
 fn best_by<P: Policy>(alloc: Global, sheet: &Sheet, horizon: u64) -> Result<Cert, AnalyseRefusal>
-    requires { horizon ≤ 1000000000 }
+    requires { horizon ≤ greatest_number }
     ensures exact { IsBestAnswer P.meaning per_task_meaning (sbf_of sheet.now.supply) sheet.now horizon result }
     ensures best { IfOk result (IsBestBy P.meaning sheet.now horizon) }
     ensures none { IfErr result (IsNoneBy P.meaning sheet.now horizon) }
@@ -42,7 +43,7 @@ fn best_by<P: Policy>(alloc: Global, sheet: &Sheet, horizon: u64) -> Result<Cert
 
 /// The best certificate by the sheet's own policy, preemption and supply.
 fn best(alloc: Global, sheet: &Sheet, horizon: u64) -> Result<Cert, AnalyseRefusal>
-    requires { horizon ≤ 1000000000 }
+    requires { horizon ≤ greatest_number }
     ensures exact { IsBestAnswer (meaning_of sheet.now.policy) per_task_meaning (sbf_of sheet.now.supply) sheet.now horizon result }
     ensures best { IfOk result (IsBestBy (meaning_of sheet.now.policy) sheet.now horizon) }
     ensures none { IfErr result (IsNoneBy (meaning_of sheet.now.policy) sheet.now horizon) }
@@ -63,7 +64,7 @@ fn name_of(alloc: Global, sheet: &Sheet, task: u32) -> Result<Text, AllocError>
 
 /// What the analysis of a sheet comes to.
 fn analysis(alloc: Global, sheet: &Sheet, horizon: u64) -> Result<Printed, Refusal>
-    requires { horizon ≤ 1000000000 }
+    requires { horizon ≤ greatest_number }
     ensures { AnalyseDoes horizon sheet.now result }
 {
     match best(alloc, sheet, horizon) {
@@ -91,7 +92,7 @@ pub fn analyse_ending<H: Shelf>(
     horizon: u64,
     shelf: &mut H,
 ) -> Result<Printed, Refusal>
-    requires { horizon ≤ 1000000000 }
+    requires { horizon ≤ greatest_number }
     ensures { OneFile sheet.now (AnalyseDoes horizon)
         (shelf_at H.files H.faults H.is_open H.log shelf.old)
         (shelf_at H.files H.faults H.is_open H.log shelf.new) result }

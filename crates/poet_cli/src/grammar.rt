@@ -2,6 +2,7 @@
 ghost use Rattle.std.specs.Prelude.{◌≡◌, [], ◌∷◌, map, string_bytes, IfSome};
 ghost use Rattle.poet_cli.specs.Words.{AnalyseOf, SimulateOf, ReportOf, horizon_in, ticks_in, tasks_in, seed_in, form_in, given, check_in, exercise_in, seeded_in, two_words, three_words, four_words, IsAsked, IsCommand, IsInRange};
 
+use lists::limits::{GREATEST_NUMBER, MOST_TICKS};
 use poet_io::read_number_in;
 use simulated_run::Mode;
 
@@ -83,7 +84,7 @@ fn analyse_of<'a>(sheet: &'a str, horizon: &str) -> Option<Command<'a>>
     ensures defined { IsAsked (given (horizon_in horizon.now) (AnalyseOf sheet.now)) result }
     ensures in_range { IfSome result IsInRange }
 {
-    let horizon = read_number_in(horizon.as_bytes(), 1, 1_000_000_000)?;
+    let horizon = read_number_in(horizon.as_bytes(), 1, GREATEST_NUMBER)?;
     Some(Command::Analyse { sheet, horizon })
 }
 
@@ -100,7 +101,7 @@ fn dense_of<'a>(sheet: &'a str, ticks: &str) -> Option<Command<'a>>
     ensures defined { IsAsked (given (ticks_in ticks.now) (SimulateOf sheet.now Mode.Dense)) result }
     ensures in_range { IfSome result IsInRange }
 {
-    let ticks = read_number_in(ticks.as_bytes(), 1, 100_000)?;
+    let ticks = read_number_in(ticks.as_bytes(), 1, MOST_TICKS)?;
     let mode = Mode::Dense;
     Some(Command::Simulate { sheet, mode, ticks })
 }
@@ -110,7 +111,7 @@ fn seeded_of<'a>(sheet: &'a str, seed: &str, ticks: &str) -> Option<Command<'a>>
     ensures in_range { IfSome result IsInRange }
 {
     let seed = read_number_in(seed.as_bytes(), 0, u64::MAX)?;
-    let ticks = read_number_in(ticks.as_bytes(), 1, 100_000)?;
+    let ticks = read_number_in(ticks.as_bytes(), 1, MOST_TICKS)?;
     let mode = Mode::Seed(seed);
     Some(Command::Simulate { sheet, mode, ticks })
 }

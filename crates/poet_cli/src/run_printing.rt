@@ -49,6 +49,7 @@ fn rule_word(rule: Rule) -> &'static str
 {
     match rule {
         Rule::Fit => "fit",
+        Rule::Release => "release",
         Rule::Valid => "valid",
         Rule::Curve => "curve",
         Rule::Supply => "supply",

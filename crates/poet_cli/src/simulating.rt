@@ -1,5 +1,6 @@
 //! How `simulate` ends.
 ghost use Rattle.std.specs.Prelude.{◌≡◌, ◌≤◌, IfOk};
+ghost use Rattle.lists.specs.Limits.{most_ticks};
 ghost use Rattle.policy.specs.Policies.{meaning_of};
 ghost use Rattle.preemption.specs.Kinds.{per_task_meaning};
 ghost use Rattle.supply.specs.Promises.{sbf_of};
@@ -29,7 +30,7 @@ use task_sheet::{PolicyKind, Sheet};
 
 /// The simulated run by the sheet's own policy, preemption and supply.
 pub fn simulation(alloc: Global, sheet: &Sheet, mode: Mode, ticks: u64) -> Result<Run, SimRefusal>
-    requires { ticks ≤ 100000 }
+    requires { ticks ≤ most_ticks }
     ensures exact { IsSimulation (world_for sheet.now mode) ticks result }
     ensures complies { IfOk result (IsCompliant (meaning_of sheet.now.policy) per_task_meaning (sbf_of sheet.now.supply) sheet.now) }
     ensures full { mode ≡ Dense → IfOk result (IsDense sheet.now ticks) }
@@ -44,7 +45,7 @@ pub fn simulation(alloc: Global, sheet: &Sheet, mode: Mode, ticks: u64) -> Resul
 
 /// What the simulation of a sheet comes to.
 fn simulated(alloc: Global, sheet: &Sheet, mode: Mode, ticks: u64) -> Result<Printed, Refusal>
-    requires { ticks ≤ 100000 }
+    requires { ticks ≤ most_ticks }
     ensures { SimulateDoes mode ticks sheet.now result }
 {
     match simulation(alloc, sheet, mode, ticks) {
@@ -67,7 +68,7 @@ pub fn simulate_ending<H: Shelf>(
     ticks: u64,
     shelf: &mut H,
 ) -> Result<Printed, Refusal>
-    requires { ticks ≤ 100000 }
+    requires { ticks ≤ most_ticks }
     ensures { OneFile sheet.now (SimulateDoes mode ticks)
         (shelf_at H.files H.faults H.is_open H.log shelf.old)
         (shelf_at H.files H.faults H.is_open H.log shelf.new) result }

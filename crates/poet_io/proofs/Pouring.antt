@@ -26,14 +26,18 @@ front_so_far None name bytes left so_far = tt
 front_so_far (Some files) name bytes left so_far = rw so_far.file (so_far.rest, refl)
 
 -- nothing was opened
-pub poured_nothing : {Eater Made T : Type 0} (Stands : Eater → Made → List ℕ → Type 0) (eater : Eater) (name : List ℕ) (limit : ℕ) (before now : List Event) (told : Option Files) (is_open : Bool) (left : Option (List ℕ)) (f g : ℕ) (result : Result T PourRefusal) →
+pub poured_nothing : {Eater Made T : Type 0} (Stands : Eater → Made → List ℕ →
+    Type 0) (eater : Eater) (name : List ℕ) (limit : ℕ) (before now : List Event) (told : Option Files) (is_open : Bool) (left : Option (List ℕ)) (f g : ℕ)
+    (result : Result T PourRefusal) →
     result ≡ Err Fault → now ≡ before ++ (event.OpenFailed name ∷ []) → HasFailed is_open left f g →
     Poured {T = T} Stands eater eater name limit before now told is_open left f g result
 poured_nothing Stands eater name limit before now told is_open left f g result e calls failed =
     rw e (record { bytes = []; eaten = ate_none Stands eater; calls = (omega arith, inl (refl, calls)); found = (failed, front_none told name) })
 
 -- a read was a fault
-pub poured_front : {Eater Made T : Type 0} (Stands : Eater → Made → List ℕ → Type 0) (eater after : Eater) (name bytes : List ℕ) (limit : ℕ) (before middle now : List Event) (told : Option Files) (is_open : Bool) (left later : Option (List ℕ)) (f g : ℕ) (result : Result T PourRefusal) →
+pub poured_front : {Eater Made T : Type 0} (Stands : Eater → Made → List ℕ →
+    Type 0) (eater after : Eater) (name bytes : List ℕ) (limit : ℕ) (before middle now : List Event) (told : Option Files) (is_open : Bool)
+    (left later : Option (List ℕ)) (f g : ℕ) (result : Result T PourRefusal) →
     result ≡ Err Fault → Ate Stands eater after bytes → length bytes ≤ limit → ReadSoFar name bytes before middle → now ≡ middle ++ (event.ReadFailed ∷ []) → SoFar told name bytes left → HasFailed is_open later f g →
     Poured {T = T} Stands eater after name limit before now told is_open later f g result
 poured_front Stands eater after name bytes limit before middle now told is_open left later f g result e eaten few read calls so_far failed =

@@ -49,6 +49,6 @@ pub record HaveOneReading {A : Type 0} (format : Format A) (reading_of : List �
   pub single : (bytes : List ℕ) (r s : Result A TextRefusal) → IsReading format bytes r → IsReading format bytes s → r ≡ s
 
 -- the answer is this reading, unless memory ran out
-abbrev pub Gives : {A : Type 0} → Result A TextRefusal → Result A TextRefusal → Type 0
-Gives (Ok value) reading = reading ≡ Ok value
-Gives (Err e) reading = e ≢ Memory → reading ≡ Err e
+abbrev pub AnswersReading : {A : Type 0} → Result A TextRefusal → Result A TextRefusal → Type 0
+AnswersReading (Ok value) reading = reading ≡ Ok value
+AnswersReading (Err e) reading = e ≢ Memory → reading ≡ Err e

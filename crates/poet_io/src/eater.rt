@@ -50,7 +50,9 @@ pub fn pour<H: Shelf, E: Eater>(
     requires { limit < 2 ^ 64 - 1 }
     ensures files { H.files shelf.new ≡ H.files shelf.old }
     ensures later { H.faults shelf.old ≤ H.faults shelf.new }
-    ensures poured { Poured E.stands eater.old eater.new name.now limit (H.log shelf.old) (H.log shelf.new) (H.files shelf.old) (H.is_open shelf.new) (H.left shelf.new) (H.faults shelf.old) (H.faults shelf.new) result }
+    ensures poured { Poured E.stands eater.old eater.new name.now limit (H.log shelf.old)
+        (H.log shelf.new) (H.files shelf.old) (H.is_open shelf.new) (H.left shelf.new)
+        (H.faults shelf.old) (H.faults shelf.new) result }
 {
     if !shelf.open(name)? {
         return Err(PourRefusal::Absent);

@@ -3,6 +3,7 @@ use Rattle.std.proofs.Common.{◌≡◌, ℕ, ◌+◌, ◌<◌, ◌≤◌, Bool,
 use Rattle.std.proofs.lemmas.Int.{ints}
 use Rattle.std.proofs.lemmas.Bool.{cases_lt, and_from, ltb-true, lt-ltb}
 use Rattle.std.proofs.lemmas.Bool.Decides.{nat_tests}
+use Rattle.lists.specs.Limits.{greatest_number}
 use Rattle.task_sheet.specs.SheetParts.{SheetParts}
 use Rattle.task_sheet.specs.Sheets.{task_at, IsValidSheet}
 use Rattle.task_sheet.specs.Limits.{jitter_high}
@@ -76,8 +77,8 @@ edf_lawful sheet ok = record {
   cap_grows = λ i o a b c d ne h. omega (arith, ints);
   block_falls = λ i o a b c d ne h e. grind (arith, nat_tests);
   cap_limited = λ i o a b c ne h.
-      let own : (task_at sheet i).deadline ≤ 1000000000 = (ok.each i b).deadline_high in
-      let other : (task_at sheet o).jitter ≤ 1000000000 = jitter_high (task_at sheet o) (ok.each o c) in
+      let own : (task_at sheet i).deadline ≤ greatest_number = (ok.each i b).deadline_high in
+      let other : (task_at sheet o).jitter ≤ greatest_number = jitter_high (task_at sheet o) (ok.each o c) in
       omega (arith, ints);
   cap_class = λ i o a b c ne e. absurd (cc);
   outside_delays = λ i o b c e. absurd (cc);
@@ -106,7 +107,7 @@ fifo_lawful sheet ok = record {
       lt-ltb a (task_at sheet j.task).jitter (omega (arith, tk.after, tj.soon));
   cap_grows = λ i o a b c d ne h. omega (arith, ints);
   block_falls = λ i o a b c d ne h e. grind (arith, nat_tests);
-  cap_limited = λ i o a b c ne h. let other : (task_at sheet o).jitter ≤ 1000000000 = jitter_high (task_at sheet o) (ok.each o c) in omega (arith, ints);
+  cap_limited = λ i o a b c ne h. let other : (task_at sheet o).jitter ≤ greatest_number = jitter_high (task_at sheet o) (ok.each o c) in omega (arith, ints);
   cap_class = λ i o a b c ne e. absurd (cc);
   outside_delays = λ i o b c e. absurd (cc);
   block_delays = λ i o a b c ne e. inl (grind (arith, nat_tests));

@@ -1,4 +1,5 @@
 use Rattle.std.specs.Prelude.{◌+◌, ◌&&◌, true, pos, ◌-ℤ◌, nat_lt, nat_le, if◌then◌else◌}
+use Rattle.lists.specs.Limits.{greatest_number}
 use Rattle.task_sheet.specs.Sheets.{task_at}
 use Rattle.task_sheet.specs.declared.tasks.PolicyKind.{PolicyKind}
 use Rattle.task_sheet.specs.declared.tasks.PolicyKind.TheVariants.{Fp, Edf, Fifo}
@@ -8,7 +9,7 @@ use Rattle.policy.specs.PolicyMeaning.{PolicyMeaning}
 -- fixed priority: tasks of no smaller priority interfere, all others may block
 abbrev pub fp_meaning : PolicyMeaning
 fp_meaning = record {
-  key = λ sheet j. record { high = pos 1000000000 -ℤ pos (task_at sheet j.task).priority; low = pos 0 };
+  key = λ sheet j. record { high = pos greatest_number -ℤ pos (task_at sheet j.task).priority; low = pos 0 };
   class = λ sheet i o. nat_le (task_at sheet i).priority (task_at sheet o).priority;
   cap = λ sheet i o a. if nat_le (task_at sheet i).priority (task_at sheet o).priority then All else Nothing;
   may_block = λ sheet i o a. nat_lt (task_at sheet o).priority (task_at sheet i).priority;

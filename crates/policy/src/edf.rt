@@ -1,4 +1,6 @@
 //! Deadlines.
+ghost use Rattle.task_sheet.specs.declared.tasks.PolicyKind.TheVariants as kind;
+ghost use Rattle.task_sheet.specs.Words.{policy_word};
 ghost use Rattle.policy.specs.Policies.{edf_meaning};
 ghost use Rattle.policy.specs.Lawful.{edf_lawful};
 
@@ -12,9 +14,15 @@ pub struct Edf;
 impl Policy for Edf {
     const NAME: &'static str = "edf";
 
+    ghost word = { policy_word kind.Edf };
+
     ghost meaning = { edf_meaning };
 
     ghost lawful = { edf_lawful };
+
+    fn word() -> &'static str {
+        Self::NAME
+    }
 
     fn key(sheet: &Sheet, job: &Job) -> Key {
         Key {

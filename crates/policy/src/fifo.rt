@@ -1,4 +1,6 @@
 //! Arrivals.
+ghost use Rattle.task_sheet.specs.declared.tasks.PolicyKind.TheVariants as kind;
+ghost use Rattle.task_sheet.specs.Words.{policy_word};
 ghost use Rattle.policy.specs.Policies.{fifo_meaning};
 ghost use Rattle.policy.specs.Lawful.{fifo_lawful};
 
@@ -12,9 +14,15 @@ pub struct Fifo;
 impl Policy for Fifo {
     const NAME: &'static str = "fifo";
 
+    ghost word = { policy_word kind.Fifo };
+
     ghost meaning = { fifo_meaning };
 
     ghost lawful = { fifo_lawful };
+
+    fn word() -> &'static str {
+        Self::NAME
+    }
 
     fn key(_sheet: &Sheet, job: &Job) -> Key {
         Key {

@@ -1,9 +1,12 @@
 //! Fixed priorities.
+ghost use Rattle.task_sheet.specs.declared.tasks.PolicyKind.TheVariants as kind;
+ghost use Rattle.task_sheet.specs.Words.{policy_word};
 ghost use Rattle.policy.specs.Policies.{fp_meaning};
 ghost use Rattle.policy.specs.Lawful.{fp_lawful};
 
 use crate::keys::{Cap, Key};
 use crate::policy::Policy;
+use lists::limits::GREATEST_NUMBER;
 use task_sheet::{Job, Sheet};
 
 /// Fixed priority: a task of a greater priority is more urgent.
@@ -12,13 +15,19 @@ pub struct Fp;
 impl Policy for Fp {
     const NAME: &'static str = "fp";
 
+    ghost word = { policy_word kind.Fp };
+
     ghost meaning = { fp_meaning };
 
     ghost lawful = { fp_lawful };
 
+    fn word() -> &'static str {
+        Self::NAME
+    }
+
     fn key(sheet: &Sheet, job: &Job) -> Key {
         Key {
-            high: 1_000_000_000 - sheet.task(job.task).priority as i64,
+            high: GREATEST_NUMBER as i64 - sheet.task(job.task).priority as i64,
             low: 0,
         }
     }

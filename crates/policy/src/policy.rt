@@ -1,5 +1,6 @@
 //! What a policy is.
-ghost use Rattle.std.specs.Prelude.{◌≡◌, ◌≢◌, ◌<◌, ◌≤◌, ℕ, length};
+ghost use Rattle.std.specs.Prelude.{◌≡◌, ◌≢◌, ◌<◌, ◌≤◌, ℕ, List, length};
+ghost use Rattle.lists.specs.Limits.{greatest_number};
 ghost use Rattle.task_sheet.specs.SheetParts.{SheetParts};
 ghost use Rattle.task_sheet.specs.Sheets.{IsValidSheet};
 ghost use Rattle.policy.specs.PolicyMeaning.{PolicyMeaning};
@@ -10,16 +11,23 @@ use task_sheet::{Job, Sheet};
 
 /// A scheduling policy, as the analysis sees it.
 ///
-/// The five calls compute its meaning, and the law says what every analysis may rest on.
+/// Five calls compute its meaning, and the law says what every analysis may rest on.
 pub trait Policy {
+    /// The word that names the policy.
     const NAME: &'static str;
 
+    ghost word: { List ℕ };
+
     ghost meaning: { PolicyMeaning };
+
+    /// The same word as `NAME`, with what it is as a clause.
+    fn word() -> &'static str
+        ensures { result.now ≡ word };
 
     /// How urgent a job is.
     fn key(sheet: &Sheet, job: &Job) -> Key
         requires task { job.now.task < length sheet.now.tasks }
-        requires arrival { job.now.arrival ≤ 1000000000 }
+        requires arrival { job.now.arrival ≤ greatest_number }
         ensures { result ≡ meaning.key sheet.now job.now };
 
     /// Whether jobs of task `o` may be at least as urgent as jobs of task `i`.
@@ -33,7 +41,7 @@ pub trait Policy {
         requires i { i < length sheet.now.tasks }
         requires o { o < length sheet.now.tasks }
         requires other { i ≢ o }
-        requires offset { a ≤ 1000000000 }
+        requires offset { a ≤ greatest_number }
         ensures { result ≡ meaning.cap sheet.now i o a };
 
     /// Whether a segment of task `o` that began before the window can block such a job.
@@ -41,7 +49,7 @@ pub trait Policy {
         requires i { i < length sheet.now.tasks }
         requires o { o < length sheet.now.tasks }
         requires other { i ≢ o }
-        requires offset { a ≤ 1000000000 }
+        requires offset { a ≤ greatest_number }
         ensures { result ≡ meaning.may_block sheet.now i o a };
 
     /// Whether a segment of task `o` can delay the window of task `i` at all.

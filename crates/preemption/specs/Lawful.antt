@@ -3,6 +3,7 @@ use Rattle.std.proofs.Common.{◌≡◌, ℕ, ◌+◌, ◌-◌, ◌<◌, ◌≤�
 use Rattle.std.specs.List.{list_all}
 use Rattle.std.proofs.lemmas.Bool.{cases_Bool, leb-true, eqb-true, and_parts, or_cases, le-leb}
 use Rattle.std.proofs.lemmas.Bool.Decides.{nat_tests}
+use Rattle.lists.specs.Limits.{most_parts}
 use Rattle.lists.specs.Ranges.{is_between}
 use Rattle.task_sheet.specs.declared.tasks.Cut.{Cut}
 use Rattle.task_sheet.specs.declared.tasks.Cut.TheVariants.{Full, Never, Fixed, Floating}
@@ -58,7 +59,8 @@ floating_job bound j f =
     (parts.0, eqb-true (sum j.segs) j.cost parts.1)
 
 -- the last segment is not cut
-last_uncut : (segments : List ℕ) (j : Job) (cost s : ℕ) → sum segments ≡ cost → 1 ≤ last_number 0 segments → each_within j.segs segments ≡ true → sum j.segs ≡ j.cost → cost - last_number 0 segments + 1 ≤ s → s < j.cost →
+last_uncut : (segments : List ℕ) (j : Job) (cost s : ℕ) → sum segments ≡ cost → 1 ≤ last_number 0 segments → each_within j.segs segments ≡ true →
+    sum j.segs ≡ j.cost → cost - last_number 0 segments + 1 ≤ s → s < j.cost →
     (is_prefix_sum j.segs s || leb j.cost s) ≡ false
 last_uncut segments j cost s total last each whole h l = elim (cases_Bool (is_prefix_sum j.segs s || leb j.cost s)) [
   | inr uncut ↦ uncut
@@ -97,8 +99,8 @@ never_by cost low = record {
 
 fixed_by : (segments : List ℕ) (cost : ℕ) → 1 ≤ cost → CutFits cost (Fixed segments) → IsLawfulBy (Fixed segments) cost
 fixed_by segments cost low f =
-    let counts = and_parts (is_between 1 1000 (length segments)) (list_all is_in_range segments) f.0 in
-    let some = leb-true 1 (length segments) (and_parts (leb 1 (length segments)) (leb (length segments) 1000) counts.0).0 in
+    let counts = and_parts (is_between 1 most_parts (length segments)) (list_all is_in_range segments) f.0 in
+    let some = leb-true 1 (length segments) (and_parts (leb 1 (length segments)) (leb (length segments) most_parts) counts.0).0 in
     let last = last_some segments counts.1 some in
     record {
       longest_positive = greatest_some segments (omega (arith, f.1));

@@ -3,6 +3,7 @@ use Rattle.std.proofs.Common.{◌≡◌, ℕ, ◌+◌, ◌-◌, ◌<◌, ◌≤�
 use Rattle.std.specs.List.{list_all}
 use Rattle.std.proofs.lemmas.Bool.{cases_lt, leb-true, eqb-true, and_from, and_parts, or_cases, le-leb}
 use Rattle.std.proofs.lemmas.List.Sums.{sum_by-cons}
+use Rattle.lists.specs.Limits.{greatest_number}
 use Rattle.task_sheet.specs.Rules.{is_in_range, last_number}
 use Rattle.preemption.specs.Cuts.{is_prefix_sum, greatest, each_within, are_lengths_within}
 
@@ -116,12 +117,12 @@ last_positive : (x : ℕ) (xs : List ℕ) → 1 ≤ x → list_all is_in_range x
 last_positive x [] h w = h
 last_positive x (y ∷ ys) h w =
     let q = and_parts (is_in_range y) (list_all is_in_range ys) w in
-    let p = and_parts (leb 1 y) (leb y 1000000000) q.0 in
+    let p = and_parts (leb 1 y) (leb y greatest_number) q.0 in
     last_positive y ys (leb-true 1 y p.0) q.1
 
 pub last_some : (xs : List ℕ) → list_all is_in_range xs ≡ true → 1 ≤ length xs → 1 ≤ last_number 0 xs
 last_some [] w h = absurd (omega arith)
 last_some (x ∷ xs) w h =
     let q = and_parts (is_in_range x) (list_all is_in_range xs) w in
-    let p = and_parts (leb 1 x) (leb x 1000000000) q.0 in
+    let p = and_parts (leb 1 x) (leb x greatest_number) q.0 in
     last_positive x xs (leb-true 1 x p.0) q.1

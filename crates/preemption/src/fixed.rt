@@ -1,4 +1,5 @@
 //! Preemption between the segments that a task fixes.
+ghost use Rattle.std.specs.Prelude.{codes};
 ghost use Rattle.preemption.specs.Kinds.{fixed_meaning};
 ghost use Rattle.preemption.specs.Lawful.{fixed_lawful, fixed_tabled};
 
@@ -15,9 +16,15 @@ pub struct FixedCut;
 impl Preemption for FixedCut {
     const NAME: &'static str = "fixed";
 
+    ghost word = { codes "fixed" };
+
     ghost cuts = { fixed_meaning };
 
     ghost lawful = { fixed_lawful };
+
+    fn word() -> &'static str {
+        Self::NAME
+    }
 
     fn cuttable(_task: &Task, job: &Job, s: u64) -> bool {
         is_prefix_sum(job.segs.as_slice(), s) || job.cost <= s

@@ -1,4 +1,5 @@
 //! Preemption between segments that each job chooses.
+ghost use Rattle.std.specs.Prelude.{codes};
 ghost use Rattle.preemption.specs.Kinds.{floating_meaning};
 ghost use Rattle.preemption.specs.Lawful.{floating_lawful, floating_tabled};
 
@@ -13,9 +14,15 @@ pub struct FloatingCut;
 impl Preemption for FloatingCut {
     const NAME: &'static str = "floating";
 
+    ghost word = { codes "floating" };
+
     ghost cuts = { floating_meaning };
 
     ghost lawful = { floating_lawful };
+
+    fn word() -> &'static str {
+        Self::NAME
+    }
 
     fn cuttable(_task: &Task, job: &Job, s: u64) -> bool {
         is_prefix_sum(job.segs.as_slice(), s) || job.cost <= s

@@ -1,4 +1,5 @@
 //! Preemption at every tick.
+ghost use Rattle.std.specs.Prelude.{codes};
 ghost use Rattle.preemption.specs.Kinds.{full_meaning};
 ghost use Rattle.preemption.specs.Lawful.{full_lawful, full_tabled};
 
@@ -13,9 +14,15 @@ pub struct FullCut;
 impl Preemption for FullCut {
     const NAME: &'static str = "full";
 
+    ghost word = { codes "full" };
+
     ghost cuts = { full_meaning };
 
     ghost lawful = { full_lawful };
+
+    fn word() -> &'static str {
+        Self::NAME
+    }
 
     fn cuttable(_task: &Task, _job: &Job, _s: u64) -> bool {
         true

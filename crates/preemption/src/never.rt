@@ -1,4 +1,5 @@
 //! No preemption.
+ghost use Rattle.std.specs.Prelude.{codes};
 ghost use Rattle.preemption.specs.Kinds.{never_meaning};
 ghost use Rattle.preemption.specs.Lawful.{never_lawful, never_tabled};
 
@@ -13,9 +14,15 @@ pub struct NeverCut;
 impl Preemption for NeverCut {
     const NAME: &'static str = "never";
 
+    ghost word = { codes "never" };
+
     ghost cuts = { never_meaning };
 
     ghost lawful = { never_lawful };
+
+    fn word() -> &'static str {
+        Self::NAME
+    }
 
     fn cuttable(_task: &Task, job: &Job, s: u64) -> bool {
         s == 0 || job.cost <= s

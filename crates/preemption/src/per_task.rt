@@ -1,4 +1,5 @@
 //! Each task by its own kind.
+ghost use Rattle.std.specs.Prelude.{codes};
 ghost use Rattle.preemption.specs.Kinds.{per_task_meaning};
 ghost use Rattle.preemption.specs.Lawful.{per_task_lawful, per_task_tabled};
 
@@ -16,9 +17,15 @@ pub struct PerTask;
 impl Preemption for PerTask {
     const NAME: &'static str = "per-task";
 
+    ghost word = { codes "per-task" };
+
     ghost cuts = { per_task_meaning };
 
     ghost lawful = { λ task ok _. per_task_lawful task ok };
+
+    fn word() -> &'static str {
+        Self::NAME
+    }
 
     fn cuttable(task: &Task, job: &Job, s: u64) -> bool {
         match &task.cut {

@@ -7,5 +7,6 @@ use crate::preemption::Preemption;
 
 /// A kind of preemption that cuts each task that it serves as the task's own cut says.
 pub trait Tabled: Preemption {
-    ghost tabled: { (task : TaskValue) → Self.cuts.serves task ≡ true → IsTabledCut Self.cuts task };
+    ghost tabled: { (task : TaskValue) → Self.cuts.serves task ≡ true →
+        IsTabledCut Self.cuts task };
 }

@@ -17,7 +17,8 @@ row_there ts es i same lt = omega (arith, length-zip ts es)
 pub row_at : (ts : List Task) (es : List Entry) (i : ℕ) (e : Entry) → length es ≡ length ts → i < length ts → get_or (zip ts es) i (no_task, e) ≡ (get_or ts i no_task, get_or es i e)
 row_at ts es i e same lt = get_or-zip ts es i (no_task, e) lt (omega arith)
 
-pub next_row : (ts : List Task) (es : List Entry) (i : ℕ) (e : Entry) → length es ≡ length ts → i < length ts → take (i + 1) (zip ts es) ≡ take i (zip ts es) ++ (get_or ts i no_task, get_or es i e) ∷ []
+pub next_row : (ts : List Task) (es : List Entry) (i : ℕ) (e : Entry) → length es ≡ length ts → i < length ts →
+    take (i + 1) (zip ts es) ≡ take i (zip ts es) ++ (get_or ts i no_task, get_or es i e) ∷ []
 next_row ts es i e same lt =
     take_more (zip ts es) i (no_task, e) (row_there ts es i same lt) ∙ ap (λ (r : Row). take i (zip ts es) ++ r ∷ []) (row_at ts es i e same lt)
 
@@ -38,7 +39,8 @@ pub rows_count : (ts : List Task) (es : List Entry) → length es ≡ length ts 
 rows_count ts es same = omega (arith, length-zip ts es)
 
 -- what is written of the rows so far, and of one more
-pub next_text : (f : Row → List ℕ) (front text more : List ℕ) (ts : List Task) (es : List Entry) (i : ℕ) (e : Entry) → length es ≡ length ts → i < length ts → text ≡ front ++ flat_map f (take i (zip ts es)) →
+pub next_text : (f : Row → List ℕ) (front text more : List ℕ) (ts : List Task) (es : List Entry) (i : ℕ) (e : Entry) → length es ≡ length ts → i < length ts →
+    text ≡ front ++ flat_map f (take i (zip ts es)) →
     more ≡ text ++ f (get_or ts i no_task, get_or es i e) → more ≡ front ++ flat_map f (take (i + 1) (zip ts es))
 next_text f front text more ts es i e same lt so_far line =
     line ∙ ap (λ (x : List ℕ). x ++ f (get_or ts i no_task, get_or es i e)) so_far ∙ append_assoc front _ _

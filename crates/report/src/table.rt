@@ -1,6 +1,7 @@
 //! The report as a table.
 ghost use Rattle.std.specs.Prelude.{◌≡◌, ◌≤◌, ◌++◌, ◌*◌, length, codes, decimal, OnOk, IfOk};
 ghost use Rattle.std.specs.String.{string_bytes};
+ghost use Rattle.lists.specs.Limits.{greatest_number};
 ghost use Rattle.certificate.specs.Text.{IsWithinGrammar};
 ghost use Rattle.task_sheet.specs.Sheets.{IsTask};
 ghost use Rattle.report.specs.Rows.{rows_of};
@@ -20,7 +21,7 @@ const MARKS: &str = "####################";
 
 /// How many twentieths of the deadline the bound takes.
 fn marks(bound: u64, deadline: u64) -> usize
-    requires bound { bound ≤ 1000000000 }
+    requires bound { bound ≤ greatest_number }
     requires deadline { 1 ≤ deadline }
     ensures marks { result ≡ marks_of bound deadline }
     ensures few { result ≤ 20 }
@@ -59,7 +60,7 @@ fn write_claim(text: &mut String, entry: &Entry) -> Result<(), AllocError>
 /// Whether the deadline is met, and how much of it the bound takes.
 fn write_result(text: &mut String, task: &Task, entry: &Entry) -> Result<(), AllocError>
     requires task { IsTask task.now }
-    requires bound { entry.now.bound ≤ 1000000000 }
+    requires bound { entry.now.bound ≤ greatest_number }
     ensures { OnOk result (string_bytes text.new ≡ string_bytes text.old ++ (codes " " ++
         (result_columns (result_word_of (task.now, entry.now))
         (bar_of (marks_of entry.now.bound task.now.deadline)) ++ codes "\n"))) }
@@ -71,7 +72,7 @@ fn write_result(text: &mut String, task: &Task, entry: &Entry) -> Result<(), All
 
 fn write_row(text: &mut String, task: &Task, entry: &Entry) -> Result<(), AllocError>
     requires task { IsTask task.now }
-    requires bound { entry.now.bound ≤ 1000000000 }
+    requires bound { entry.now.bound ≤ greatest_number }
     ensures { OnOk result (string_bytes text.new ≡ string_bytes text.old ++
         row_line (task.now, entry.now)) }
 {

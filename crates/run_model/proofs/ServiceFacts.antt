@@ -73,10 +73,19 @@ service_le run k t u h l =
     let e : t + (u - t) ≡ u = omega arith in
     omega (arith, service_mono run k t (u - t) (omega arith), ap (service_of run k) e)
 
--- the service in two parts
-pub service_split : (run : Run) (k s d : ℕ) → s + d ≤ length run.ticks → service_of run k (s + d) ≡ service_of run k s + ticks_in (runs k) run s d
-service_split run k s zero h = rw add-zero (omega (arith, ticks_in_none (runs k) run s))
-service_split run k s (suc d) h = rw add-suc (omega (arith, service_split run k s d (omega arith), service_more run k (s + d) (omega arith), ticks_in_more (runs k) run s d (omega arith)))
+-- the service, as the ticks from the first on
+pub service_ticks : (run : Run) (k t : ℕ) → service_of run k t ≡ ticks_in (runs k) run 0 t
+unfolding service_of ticks_in
+service_ticks run k t = refl
+
+-- the ticks before s + d, in two parts
+pub ticks_in_split : (test : Tick → Bool) (run : Run) (s d : ℕ) → s + d ≤ length run.ticks →
+    ticks_in test run 0 (s + d) ≡ ticks_in test run 0 s + ticks_in test run s d
+ticks_in_split test run s zero h = rw add-zero (omega (arith, ticks_in_none test run s))
+ticks_in_split test run s (suc d) h =
+    let e : 0 + (s + d) ≡ s + d = omega arith in
+    let more = ticks_in_more test run 0 (s + d) (omega arith) in
+    rw add-suc (omega (arith, ticks_in_split test run s d (omega arith), more, ticks_in_more test run s d (omega arith), ap (λ (w : ℕ). cond {A = ℕ} (test (tick_at run w)) 1 0) e))
 
 -- every tick that runs a job runs one that is pending
 pub record RunsPending (run : Run) : Type 0 where

@@ -4,15 +4,19 @@ use Rattle.std.specs.List.{All, AllByRecursion, flat_map}
 use Rattle.std.specs.Option.{option_map, option_and_then}
 use Rattle.std.proofs.lemmas.Bool.{cases_Bool, and_parts, ne_eqb, eq-eqb, both_ways}
 use Rattle.std.proofs.lemmas.List.Elements.{All-nil, All-cons}
+use Rattle.std.proofs.lemmas.Fmt.{decimal_injective}
 use Rattle.poet_io.specs.Decimals.{number_in}
 use Rattle.poet_io.proofs.RangeFacts.{number_in-decimal, number_in-Some}
+use Rattle.lists.specs.Limits.{greatest_number}
 use Rattle.task_sheet.specs.declared.tasks.Job.{Job}
 use Rattle.run_model.specs.declared.run.Run.{Run}
 use Rattle.run_model.specs.declared.run.Tick.{Tick}
 use Rattle.run_model.specs.declared.run.Tick.TheVariants.{Off, Idle, Runs}
-use Rattle.run_text.specs.Text.{Stretch, stretch, tick_words, stretch_line, segment_text, job_line, counts_line, limit, IsSegment, IsJob, IsTickOf}
+use Rattle.run_text.specs.declared.version.Version.{Version}
+use Rattle.run_text.specs.declared.version.Version.TheVariants.{First, Second}
+use Rattle.run_text.specs.Text.{Stretch, stretch, tick_words, stretch_line, segment_text, head_of, release_text, job_line, counts_line, greatest_release, IsSegment, IsJob, IsTickOf, Tells}
 use Rattle.run_text.specs.Words.{words_of, is_text}
-use Rattle.run_text.specs.Lines.{both, counts_from, counts_of, job_number, segments_from, make_job, job_with, job_from, job_of, stretch_with, named_job, stretch_from, stretch_of}
+use Rattle.run_text.specs.Lines.{version_of, both, counts_from, counts_of, job_number, release_number, segments_from, make_job, job_with, from_release, job_behind, job_from, job_of, stretch_with, named_job, stretch_from, stretch_of}
 use Rattle.run_text.proofs.WordFacts.{Lacks, lacks_append, decimal_lacks, words_last, words_more, words_of-numbers, text_is}
 
 pub all_by_recursion : {X : Type 0} (P : X → Type 0) (xs : List X) → All P xs → AllByRecursion P xs
@@ -33,6 +37,24 @@ lacks_from_test c [] = λ h. tt
 lacks_from_test c (x ∷ xs) = elim (cases_Bool (x == c)) [
   | inl e ↦ rw e (λ h. absurd (cc))
   | inr e ↦ rw e (λ h. (refl, lacks_from_test c xs h))
+]
+
+pub head-lacks : (version : Version) → Lacks 10 (head_of version)
+head-lacks First = lacks_from_test 10 (codes "poet-run 1") refl
+head-lacks Second = lacks_from_test 10 (codes "poet-run 2") refl
+
+pub version_of-head : (version : Version) → version_of (head_of version) ≡ Some version
+version_of-head First = refl
+version_of-head Second = refl
+
+-- a line that names a version is its first line
+pub version_back : (line : List ℕ) (version : Version) → version_of line ≡ Some version → line ≡ head_of version
+version_back line version = elim (cases_Bool (is_text line (head_of First))) [
+  | inl h ↦ rw h (λ e. let same : First ≡ version = cc in text_is line (head_of First) h ∙ ap head_of same)
+  | inr h ↦ rw h (elim (cases_Bool (is_text line (head_of Second))) [
+    | inl k ↦ rw k (λ e. let same : Second ≡ version = cc in text_is line (head_of Second) k ∙ ap head_of same)
+    | inr k ↦ rw k (λ e. absurd (cc))
+  ])
 ]
 
 -- the line of the counts without its newline
@@ -218,55 +240,89 @@ stretch_back m left (a ∷ (k ∷ (n ∷ []))) s = elim (cases_Bool (is_text a (
 ]
 stretch_back m left (a ∷ (k ∷ (n ∷ (b ∷ ws)))) s = λ e. absurd (cc)
 
+-- a job in range that the version can tell
+pub record IsJobIn (version : Version) (j : Job) : Type 0 where
+  pub job : IsJob j
+  pub told : Tells version j
+
 -- the line of a job without its newline
-abbrev pub job_front : Job → List ℕ
-job_front j = codes "j " ++ (decimal j.task ++ (codes " " ++ (decimal j.arrival ++ (codes " " ++ (decimal j.cost ++ flat_map segment_text j.segs)))))
+abbrev pub job_front : Version → Job → List ℕ
+job_front version j =
+    codes "j " ++ (decimal j.task ++ (codes " " ++ (decimal j.arrival ++ (codes " " ++
+    (release_text version j.release ++ (decimal j.cost ++ flat_map segment_text j.segs))))))
 
-abbrev pub job_words : Job → List (List ℕ)
-job_words j = codes "j" ∷ (decimal j.task ∷ (decimal j.arrival ∷ (decimal j.cost ∷ map decimal j.segs)))
+-- the word of a release, if the version has it
+abbrev pub release_words : Version → ℕ → List (List ℕ)
+release_words First release = []
+release_words Second release = decimal release ∷ []
 
-pub job_line_is : (j : Job) (rest : List ℕ) → job_line j ++ rest ≡ job_front j ++ 10 ∷ rest
-job_line_is j rest =
+abbrev pub job_words : Version → Job → List (List ℕ)
+job_words version j =
+    codes "j" ∷ (decimal j.task ∷ (decimal j.arrival ∷ (release_words version j.release ++ decimal j.cost ∷ map decimal j.segs)))
+
+pub job_line_is : (version : Version) (j : Job) (rest : List ℕ) → job_line version j ++ rest ≡ job_front version j ++ 10 ∷ rest
+job_line_is version j rest =
     let t = decimal j.task in
     let a = decimal j.arrival in
+    let e = release_text version j.release in
     let c = decimal j.cost in
     let s = flat_map segment_text j.segs in
     let newline = codes "\n" in
-    let whole : job_line j ≡ job_front j ++ newline = ap (λ (l : List ℕ). codes "j " ++ l) (
-    ap (λ (l : List ℕ). t ++ (codes " " ++ l)) (ap (λ (l : List ℕ). a ++ (codes " " ++ l)) (sym (append_assoc c s newline)) ∙ sym (append_assoc a (codes " " ++ (c ++ s)) newline))
-    ∙ sym (append_assoc t (codes " " ++ (a ++ (codes " " ++ (c ++ s)))) newline)) in
-    ap (λ (l : List ℕ). l ++ rest) whole ∙ append_assoc (job_front j) newline rest
+    let behind : e ++ (c ++ (s ++ newline)) ≡ (e ++ (c ++ s)) ++ newline =
+    ap (λ (l : List ℕ). e ++ l) (sym (append_assoc c s newline)) ∙ sym (append_assoc e (c ++ s) newline) in
+    let whole : job_line version j ≡ job_front version j ++ newline = ap (λ (l : List ℕ). codes "j " ++ l) (
+    ap (λ (l : List ℕ). t ++ (codes " " ++ l)) (ap (λ (l : List ℕ). a ++ (codes " " ++ l)) behind ∙ sym (append_assoc a (codes " " ++ (e ++ (c ++ s))) newline))
+    ∙ sym (append_assoc t (codes " " ++ (a ++ (codes " " ++ (e ++ (c ++ s))))) newline)) in
+    ap (λ (l : List ℕ). l ++ rest) whole ∙ append_assoc (job_front version j) newline rest
 
 segments_fit : (ns : List ℕ) → AllByRecursion IsSegment ns → AllByRecursion (λ n. n < 2 ^ 64) ns
 segments_fit [] h = tt
 segments_fit (n ∷ ns) h = (omega (arith, h.0), segments_fit ns h.1)
 
-pub job_front-words : (j : Job) → IsJob j → words_of (job_front j) ≡ job_words j
-job_front-words j h =
+release_text-words : (version : Version) (release : ℕ) (t : List ℕ) → release < 2 ^ 64 → words_of (release_text version release ++ t) ≡ release_words version release ++ words_of t
+release_text-words First release t h = refl
+release_text-words Second release t h = ap words_of (append_assoc (decimal release) (codes " ") t) ∙ words_more (decimal release) t (decimal_lacks 32 release (omega arith) h)
+
+pub job_front-words : (version : Version) (j : Job) → IsJob j → words_of (job_front version j) ≡ job_words version j
+job_front-words version j h =
     let t = decimal j.task in
     let a = decimal j.arrival in
+    let e = release_text version j.release in
     let c = decimal j.cost in
     let s = flat_map segment_text j.segs in
-    ap (λ (ws : List (List ℕ)). codes "j" ∷ ws) (words_more t (a ++ (codes " " ++ (c ++ s))) (decimal_lacks 32 j.task (omega arith) (omega (arith, h.task)))
-    ∙ ap (λ (ws : List (List ℕ)). t ∷ ws) (words_more a (c ++ s) (decimal_lacks 32 j.arrival (omega arith) (omega (arith, h.arrival)))
-    ∙ ap (λ (ws : List (List ℕ)). a ∷ ws) (words_of-numbers c j.segs (decimal_lacks 32 j.cost (omega arith) (omega (arith, h.cost))) (segments_fit j.segs (all_by_recursion IsSegment j.segs h.segs)))))
+    let last : words_of (c ++ s) ≡ c ∷ map decimal j.segs =
+    words_of-numbers c j.segs (decimal_lacks 32 j.cost (omega arith) (omega (arith, h.cost))) (segments_fit j.segs (all_by_recursion IsSegment j.segs h.segs)) in
+    ap (λ (ws : List (List ℕ)). codes "j" ∷ ws) (words_more t (a ++ (codes " " ++ (e ++ (c ++ s)))) (decimal_lacks 32 j.task (omega arith) (omega (arith, h.task)))
+    ∙ ap (λ (ws : List (List ℕ)). t ∷ ws) (words_more a (e ++ (c ++ s)) (decimal_lacks 32 j.arrival (omega arith) (omega (arith, h.arrival)))
+    ∙ ap (λ (ws : List (List ℕ)). a ∷ ws) (release_text-words version j.release (c ++ s) (omega (arith, h.release))
+    ∙ ap (λ (ws : List (List ℕ)). release_words version j.release ++ ws) last)))
 
 segments-lack : (ns : List ℕ) → AllByRecursion IsSegment ns → Lacks 10 (flat_map segment_text ns)
 segments-lack [] h = tt
 segments-lack (n ∷ ns) h = lacks_append 10 (segment_text n) (flat_map segment_text ns) (refl, decimal_lacks 10 n (omega arith) (omega (arith, h.0))) (segments-lack ns h.1)
 
-pub job_front-lacks : (j : Job) → IsJob j → Lacks 10 (job_front j)
-job_front-lacks j h =
+release_text-lacks : (version : Version) (release : ℕ) → release < 2 ^ 64 → Lacks 10 (release_text version release)
+release_text-lacks First release h = tt
+release_text-lacks Second release h = lacks_append 10 (decimal release) (codes " ") (decimal_lacks 10 release (omega arith) h) (refl, tt)
+
+pub job_front-lacks : (version : Version) (j : Job) → IsJob j → Lacks 10 (job_front version j)
+job_front-lacks version j h =
     let t = decimal j.task in
     let a = decimal j.arrival in
+    let e = release_text version j.release in
     let c = decimal j.cost in
     let s = flat_map segment_text j.segs in
     let last : Lacks 10 (c ++ s) = lacks_append 10 c s (decimal_lacks 10 j.cost (omega arith) (omega (arith, h.cost))) (segments-lack j.segs (all_by_recursion IsSegment j.segs h.segs)) in
-    let middle : Lacks 10 (a ++ (codes " " ++ (c ++ s))) = lacks_append 10 a (codes " " ++ (c ++ s)) (decimal_lacks 10 j.arrival (omega arith) (omega (arith, h.arrival))) (refl, last) in
-    (refl, (refl, lacks_append 10 t (codes " " ++ (a ++ (codes " " ++ (c ++ s)))) (decimal_lacks 10 j.task (omega arith) (omega (arith, h.task))) (refl, middle)))
+    let behind : Lacks 10 (e ++ (c ++ s)) = lacks_append 10 e (c ++ s) (release_text-lacks version j.release (omega (arith, h.release))) last in
+    let middle : Lacks 10 (a ++ (codes " " ++ (e ++ (c ++ s)))) =
+    lacks_append 10 a (codes " " ++ (e ++ (c ++ s))) (decimal_lacks 10 j.arrival (omega arith) (omega (arith, h.arrival))) (refl, behind) in
+    (refl, (refl, lacks_append 10 t (codes " " ++ (a ++ (codes " " ++ (e ++ (c ++ s))))) (decimal_lacks 10 j.task (omega arith) (omega (arith, h.task))) (refl, middle)))
 
-job_number-decimal : (n : ℕ) → n ≤ limit → job_number (decimal n) ≡ Some n
+job_number-decimal : (n : ℕ) → n ≤ greatest_number → job_number (decimal n) ≡ Some n
 job_number-decimal n h = number_in-decimal 0 1000000000 n (omega arith) (omega arith) h
+
+release_number-decimal : (n : ℕ) → n ≤ greatest_release → release_number (decimal n) ≡ Some n
+release_number-decimal n h = number_in-decimal 0 greatest_release n (omega arith) (omega arith) h
 
 -- a number that is not the greatest one
 room_test : (k m room : ℕ) → k + suc m ≤ room → (k == room) ≡ false
@@ -279,13 +335,21 @@ segments_from-decimals room done (n ∷ ns) h all =
     let number : job_number (decimal n) ≡ Some n = job_number-decimal n all.0 in
     rw (test, number) (segments_from-decimals room (done ++ n ∷ []) ns (omega (arith, length-append done (n ∷ []))) all.1 ∙ ap Some (append_assoc done (n ∷ []) ns))
 
-pub job_of-front : (room : ℕ) (j : Job) → IsJob j → length j.segs ≤ room → job_of room (job_front j) ≡ Some j
-job_of-front room j h few =
-    let task : job_number (decimal j.task) ≡ Some j.task = job_number-decimal j.task h.task in
-    let arrival : job_number (decimal j.arrival) ≡ Some j.arrival = job_number-decimal j.arrival h.arrival in
-    let cost : job_number (decimal j.cost) ≡ Some j.cost = job_number-decimal j.cost h.cost in
-    let segs : segments_from room [] (map decimal j.segs) ≡ Some j.segs = segments_from-decimals room [] j.segs (omega arith) (all_by_recursion IsSegment j.segs h.segs) in
-    ap (job_from room) (job_front-words j h) ∙ rw (task, arrival, cost, segs) (ap (λ (r : ℕ). Some (let k : Job = record { task = j.task; arrival = j.arrival; release = r; cost = j.cost; segs = j.segs } in k)) (sym h.released))
+-- where the arrival stands for a release that the version does not say
+from_release-words : (version : Version) (j : Job) (ws : List (List ℕ)) → Tells version j → from_release version (decimal j.arrival) (release_words version j.release ++ ws) ≡ decimal j.release ∷ ws
+from_release-words First j ws told = ap (λ (n : ℕ). decimal n ∷ ws) (sym (told refl))
+from_release-words Second j ws told = refl
+
+pub job_of-front : (version : Version) (room : ℕ) (j : Job) → IsJobIn version j → length j.segs ≤ room → job_of version room (job_front version j) ≡ Some j
+job_of-front version room j h few =
+    let task : job_number (decimal j.task) ≡ Some j.task = job_number-decimal j.task h.job.task in
+    let arrival : job_number (decimal j.arrival) ≡ Some j.arrival = job_number-decimal j.arrival h.job.arrival in
+    let release : release_number (decimal j.release) ≡ Some j.release = release_number-decimal j.release h.job.release in
+    let cost : job_number (decimal j.cost) ≡ Some j.cost = job_number-decimal j.cost h.job.cost in
+    let segs : segments_from room [] (map decimal j.segs) ≡ Some j.segs = segments_from-decimals room [] j.segs (omega arith) (all_by_recursion IsSegment j.segs h.job.segs) in
+    ap (job_from version room) (job_front-words version j h.job)
+    ∙ ap (job_behind room (codes "j") (decimal j.task) (decimal j.arrival)) (from_release-words version j (decimal j.cost ∷ map decimal j.segs) h.told)
+    ∙ rw (task, arrival, release, cost, segs) refl
 
 -- what was read as segments
 record ReadsSegments (room : ℕ) (done : List ℕ) (ws : List (List ℕ)) (v : List ℕ) : Type 0 where
@@ -319,44 +383,83 @@ segments_back room done (w ∷ ws) v few = elim (cases_Bool (length done == room
       })
 ]
 
--- what was read as a job: its words, and its ranges
-pub record ReadsJob (room : ℕ) (ws : List (List ℕ)) (j : Job) : Type 0 where
-  pub words : ws ≡ job_words j
-  pub job : IsJob j
-  pub few : length j.segs ≤ room
+-- what was read as a job behind the words of its task and arrival: its words, and its ranges
+record ReadsBehind (room : ℕ) (a t r : List ℕ) (ws : List (List ℕ)) (j : Job) : Type 0 where
+  first : a ≡ codes "j"
+  task : t ≡ decimal j.task
+  arrival : r ≡ decimal j.arrival
+  rest : ws ≡ decimal j.release ∷ (decimal j.cost ∷ map decimal j.segs)
+  job : IsJob j
+  few : length j.segs ≤ room
 
-job_parts : (room : ℕ) (t r c : List ℕ) (ws : List (List ℕ)) (j : Job) (ot oa oc : Option ℕ) (os : Option (List ℕ)) → job_number t ≡ ot → job_number r ≡ oa → job_number c ≡ oc → segments_from room [] ws ≡ os → job_with ot oa oc os ≡ Some j
-    → ReadsJob room (codes "j" ∷ (t ∷ (r ∷ (c ∷ ws)))) j
-job_parts room t r c ws j None oa oc os it ia ic iss e = absurd (cc)
-job_parts room t r c ws j (Some task) None oc os it ia ic iss e = absurd (cc)
-job_parts room t r c ws j (Some task) (Some arrival) None os it ia ic iss e = absurd (cc)
-job_parts room t r c ws j (Some task) (Some arrival) (Some cost) None it ia ic iss e = absurd (cc)
-job_parts room t r c ws j (Some task) (Some arrival) (Some cost) (Some segs) it ia ic iss e =
-    let same : make_job task arrival cost segs ≡ j = cc in
-    let nt = number_in-Some 0 1000000000 t task it in
-    let na = number_in-Some 0 1000000000 r arrival ia in
-    let nc = number_in-Some 0 1000000000 c cost ic in
+job_parts : (room : ℕ) (a t r l c : List ℕ) (ws : List (List ℕ)) (j : Job) (ot oa ol oc : Option ℕ) (os : Option (List ℕ)) → a ≡ codes "j" →
+    job_number t ≡ ot → job_number r ≡ oa → release_number l ≡ ol → job_number c ≡ oc → segments_from room [] ws ≡ os → job_with ot oa ol oc os ≡ Some j → ReadsBehind room a t r (l ∷ (c ∷ ws)) j
+job_parts room a t r l c ws j None oa ol oc os first it ia il ic iss e = absurd (cc)
+job_parts room a t r l c ws j (Some task) None ol oc os first it ia il ic iss e = absurd (cc)
+job_parts room a t r l c ws j (Some task) (Some arrival) None oc os first it ia il ic iss e = absurd (cc)
+job_parts room a t r l c ws j (Some task) (Some arrival) (Some release) None os first it ia il ic iss e = absurd (cc)
+job_parts room a t r l c ws j (Some task) (Some arrival) (Some release) (Some cost) None first it ia il ic iss e = absurd (cc)
+job_parts room a t r l c ws j (Some task) (Some arrival) (Some release) (Some cost) (Some segs) first it ia il ic iss e =
+    let same : make_job task arrival release cost segs ≡ j = cc in
+    let nt = number_in-Some 0 greatest_number t task it in
+    let na = number_in-Some 0 greatest_number r arrival ia in
+    let nl = number_in-Some 0 greatest_release l release il in
+    let nc = number_in-Some 0 greatest_number c cost ic in
     let read = segments_back room [] ws segs (omega arith) iss in
-    let wt : t ≡ decimal task = nt.0 in
-    let wa : r ≡ decimal arrival = na.0 in
+    let wl : l ≡ decimal release = nl.0 in
     let wc : c ≡ decimal cost = nc.0 in
     let ws_is : ws ≡ map decimal segs = read.words ∙ ap (map decimal) (sym read.is) in
     let all : All IsSegment segs = all_again IsSegment segs (subst (AllByRecursion IsSegment) (sym read.is) read.all) in
-    let found : ReadsJob room (codes "j" ∷ (t ∷ (r ∷ (c ∷ ws)))) (make_job task arrival cost segs) = record {
-      words = rw (wt, wa, wc, ws_is) refl;
-      job = record { task = nt.2; arrival = na.2; released = refl; cost = nc.2; segs = all };
+    let found : ReadsBehind room a t r (l ∷ (c ∷ ws)) (make_job task arrival release cost segs) = record {
+      first = first;
+      task = nt.0;
+      arrival = na.0;
+      rest = rw (wl, wc, ws_is) refl;
+      job = record { task = nt.2; arrival = na.2; release = nl.2; cost = nc.2; segs = all };
       few = read.few;
     } in
-    subst (ReadsJob room (codes "j" ∷ (t ∷ (r ∷ (c ∷ ws))))) same found
+    subst (ReadsBehind room a t r (l ∷ (c ∷ ws))) same found
 
-pub job_back : (room : ℕ) (ws : List (List ℕ)) (j : Job) → job_from room ws ≡ Some j → ReadsJob room ws j
-job_back room [] j = λ e. absurd (cc)
-job_back room (a ∷ []) j = λ e. absurd (cc)
-job_back room (a ∷ (t ∷ [])) j = λ e. absurd (cc)
-job_back room (a ∷ (t ∷ (r ∷ []))) j = λ e. absurd (cc)
-job_back room (a ∷ (t ∷ (r ∷ (c ∷ ws)))) j = elim (cases_Bool (is_text a (codes "j"))) [
-  | inl h ↦ rw h (λ e.
-      let first : codes "j" ≡ a = sym (text_is a (codes "j") h) in
-      subst (λ (b : List ℕ). ReadsJob room (b ∷ (t ∷ (r ∷ (c ∷ ws)))) j) first (job_parts room t r c ws j (job_number t) (job_number r) (job_number c) (segments_from room [] ws) refl refl refl refl e))
+behind_back : (room : ℕ) (a t r : List ℕ) (ws : List (List ℕ)) (j : Job) → job_behind room a t r ws ≡ Some j → ReadsBehind room a t r ws j
+behind_back room a t r [] j = λ e. absurd (cc)
+behind_back room a t r (l ∷ []) j = λ e. absurd (cc)
+behind_back room a t r (l ∷ (c ∷ ws)) j = elim (cases_Bool (is_text a (codes "j"))) [
+  | inl h ↦ rw h (λ e. job_parts room a t r l c ws j (job_number t) (job_number r) (release_number l) (job_number c) (segments_from room [] ws) (text_is a (codes "j") h) refl refl refl refl refl e)
   | inr h ↦ rw h (λ e. absurd (cc))
 ]
+
+-- what was read as a job: its words, and its ranges
+pub record ReadsJob (version : Version) (room : ℕ) (ws : List (List ℕ)) (j : Job) : Type 0 where
+  pub words : ws ≡ job_words version j
+  pub job : IsJobIn version j
+  pub few : length j.segs ≤ room
+
+words_back : (version : Version) (room : ℕ) (a t r : List ℕ) (ws : List (List ℕ)) (j : Job) → ReadsBehind room a t r (from_release version r ws) j → ReadsJob version room (a ∷ (t ∷ (r ∷ ws))) j
+words_back First room a t r ws j b =
+    let first : a ≡ codes "j" = b.first in
+    let task : t ≡ decimal j.task = b.task in
+    let arrival : r ≡ decimal j.arrival = b.arrival in
+    let rest : r ∷ ws ≡ decimal j.release ∷ (decimal j.cost ∷ map decimal j.segs) = b.rest in
+    let release : r ≡ decimal j.release = cc in
+    let behind : ws ≡ decimal j.cost ∷ map decimal j.segs = cc in
+    record {
+      words = rw (first, task, arrival, behind) refl;
+      job = record { job = b.job; told = λ e. decimal_injective j.release j.arrival (omega (arith, b.job.release)) (omega (arith, b.job.arrival)) (sym release ∙ arrival) };
+      few = b.few;
+    }
+words_back Second room a t r ws j b =
+    let first : a ≡ codes "j" = b.first in
+    let task : t ≡ decimal j.task = b.task in
+    let arrival : r ≡ decimal j.arrival = b.arrival in
+    let rest : ws ≡ decimal j.release ∷ (decimal j.cost ∷ map decimal j.segs) = b.rest in
+    record {
+      words = rw (first, task, arrival, rest) refl;
+      job = record { job = b.job; told = λ e. absurd (cc) };
+      few = b.few;
+    }
+
+pub job_back : (version : Version) (room : ℕ) (ws : List (List ℕ)) (j : Job) → job_from version room ws ≡ Some j → ReadsJob version room ws j
+job_back version room [] j = λ e. absurd (cc)
+job_back version room (a ∷ []) j = λ e. absurd (cc)
+job_back version room (a ∷ (t ∷ [])) j = λ e. absurd (cc)
+job_back version room (a ∷ (t ∷ (r ∷ ws))) j = λ e. words_back version room a t r ws j (behind_back room a t r (from_release version r ws) j e)

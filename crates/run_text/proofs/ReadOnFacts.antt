@@ -56,8 +56,8 @@ on_whole p n i start bytes le e over =
 
 not_whole : (stage : Stage) (line : List ℕ) → (stage ≡ Over → line ≡ [] → ⊥) → is_whole stage line ≡ false
 not_whole Head line h = refl
-not_whole Counts line h = refl
-not_whole (Jobs after room t) line h = refl
+not_whole (Counts v) line h = refl
+not_whole (Jobs v after room t) line h = refl
 not_whole (Ticks before left) line h = refl
 not_whole Over [] h = absurd (h refl refl)
 not_whole Over (x ∷ line) h = refl

@@ -2,25 +2,25 @@
 
 ghost use Rattle.std.specs.Prelude.{◌≡◌, ◌≤◌, ◌++◌, ◌↔◌, length, replicate, IfOk, OnOk, IsTrue};
 ghost use Rattle.std.specs.Bool.{OnTrue};
+ghost use Rattle.lists.specs.Limits.{most_jobs};
 ghost use Rattle.run_text.specs.Words.{is_text};
 ghost use Rattle.run_text.specs.Parts.{part, nothing_read, before_jobs, is_repeated, after_stretch, after_at, after_line, jobs_to_come, ticks_to_come, IsSmall};
 ghost use Rattle.run_text.specs.Drafts.{part_of, part_if};
 ghost use Rattle.run_text.specs.declared.stage.Stage.TheVariants as stage;
 
-use crate::lines::{read_counts, read_job, read_stretch};
+use crate::lines::{read_counts, read_job, read_stretch, read_version};
 use crate::stage::Stage;
+use crate::version::Version;
 use crate::writing::are_same;
 use lists::Items;
+use lists::limits::MOST_SEGMENTS;
 use run_model::{Run, Tick};
 use std::alloc::{AllocError, Global};
 use task_sheet::Job;
 
-/// The most segments of all jobs together.
-const MOST_SEGMENTS: u64 = 1_000_000;
-
 /// The stage where so many job lines are to come, and then so many ticks.
-fn before_jobs(jobs: u64, room: u64, ticks: u64) -> Stage
-    ensures stage { result ≡ before_jobs jobs room ticks }
+fn before_jobs(version: Version, jobs: u64, room: u64, ticks: u64) -> Stage
+    ensures stage { result ≡ before_jobs version jobs room ticks }
     ensures jobs { jobs_to_come result ≡ jobs }
     ensures ticks { ticks_to_come result ≡ ticks }
 {
@@ -31,6 +31,7 @@ fn before_jobs(jobs: u64, room: u64, ticks: u64) -> Stage
         }
     } else {
         Stage::Jobs {
+            version,
             after: jobs - 1,
             room,
             ticks,
@@ -90,8 +91,22 @@ impl Draft {
         true
     }
 
-    fn take_counts(&mut self, line: &[u8]) -> bool
-        ensures next { after_at stage.Counts self.old.jobs.items self.old.ticks.items line.now ≡
+    fn take_version(&mut self, line: &[u8]) -> bool
+        ensures next { after_at stage.Head self.old.jobs.items self.old.ticks.items line.now ≡
+            part_if result self.new }
+        ensures small { OnTrue result (length self.old.jobs.items ≡ 0 →
+            IsSmall (part_of self.new)) }
+    {
+        let Some(version) = read_version(line) else {
+            return false;
+        };
+        self.stage = Stage::Counts { version };
+        true
+    }
+
+    fn take_counts(&mut self, line: &[u8], version: Version) -> bool
+        ensures next { let stage = stage.Counts version in
+            after_at stage self.old.jobs.items self.old.ticks.items line.now ≡
             part_if result self.new }
         ensures small { OnTrue result (length self.old.jobs.items ≡ 0 →
             IsSmall (part_of self.new)) }
@@ -99,7 +114,7 @@ impl Draft {
         let Some((jobs, ticks)) = read_counts(line) else {
             return false;
         };
-        self.stage = before_jobs(jobs, MOST_SEGMENTS, ticks);
+        self.stage = before_jobs(version, jobs, MOST_SEGMENTS as u64, ticks);
         true
     }
 
@@ -107,18 +122,19 @@ impl Draft {
         &mut self,
         alloc: Global,
         line: &[u8],
+        version: Version,
         after: u64,
         room: u64,
         ticks: u64,
     ) -> Result<bool, AllocError>
-        ensures { let stage = stage.Jobs after room ticks in IfOk result (λ fits.
+        ensures { let stage = stage.Jobs version after room ticks in IfOk result (λ fits.
             after_at stage self.old.jobs.items self.old.ticks.items line.now ≡
             part_if fits self.new) }
     {
-        let Some(job) = read_job(alloc, line, room)? else {
+        let Some(job) = read_job(alloc, line, version, room)? else {
             return Ok(false);
         };
-        self.stage = before_jobs(after, room - job.segs.len() as u64, ticks);
+        self.stage = before_jobs(version, after, room - job.segs.len() as u64, ticks);
         self.jobs.push(job)?;
         Ok(true)
     }
@@ -129,7 +145,7 @@ impl Draft {
         before: Option<Tick>,
         left: u64,
     ) -> Result<bool, AllocError>
-        requires { length self.old.jobs.items ≤ 20000 }
+        requires { length self.old.jobs.items ≤ most_jobs }
         ensures { IfOk result (λ fits.
             after_stretch before left self.old.jobs.items self.old.ticks.items line.now ≡
             part_if fits self.new) }
@@ -156,9 +172,14 @@ impl Draft {
         ensures small { IfOk result (λ fits. OnTrue fits (IsSmall (part_of self.new))) }
     {
         match self.stage {
-            Stage::Head => Ok(self.take_text(line, b"poet-run 1", Stage::Counts)),
-            Stage::Counts => Ok(self.take_counts(line)),
-            Stage::Jobs { after, room, ticks } => self.take_job(alloc, line, after, room, ticks),
+            Stage::Head => Ok(self.take_version(line)),
+            Stage::Counts { version } => Ok(self.take_counts(line, version)),
+            Stage::Jobs {
+                version,
+                after,
+                room,
+                ticks,
+            } => self.take_job(alloc, line, version, after, room, ticks),
             Stage::Ticks { before, left } => {
                 if left == 0 {
                     Ok(self.take_text(line, b"end", Stage::Over))

@@ -1,4 +1,4 @@
-//! Runs' texts: their one text, its writing and its reading.
+//! Runs' texts in two versions: their writing and their reading.
 #![tactic(auto)]
 
 mod draft;
@@ -6,6 +6,7 @@ mod laws;
 mod lines;
 mod reading;
 mod stage;
+mod version;
 mod words;
 mod writing;
 

@@ -1,33 +1,43 @@
 //! What a line of a run's text says, read by itself.
 
-ghost use Rattle.std.specs.Prelude.{◌≡◌, ◌<◌, ◌≤◌, [], length, IfOk, IfSome};
+ghost use Rattle.std.specs.Prelude.{◌≡◌, ◌<◌, ◌≤◌, [], ◌∷◌, length, IfOk, IfSome, IfNone};
 ghost use Rattle.std.specs.Option.{option_map};
+ghost use Rattle.lists.specs.Limits.{most_jobs, most_ticks, greatest_number};
 ghost use Rattle.poet_io.specs.Decimals.{number_in};
 ghost use Rattle.run_text.specs.Text.{stretch};
 ghost use Rattle.run_text.specs.Unread.{unread};
-ghost use Rattle.run_text.specs.Lines.{counts_of, job_number, segments_from, make_job, job_with, job_of, named_job, plain_stretch, job_stretch, stretch_of};
+ghost use Rattle.run_text.specs.Lines.{version_of, counts_of, job_number, release_number, segments_from, make_job, job_with, from_release, job_of, named_job, plain_stretch, job_stretch, stretch_of};
 
+use crate::version::Version;
 use crate::words::Words;
 use lists::Items;
+use lists::limits::{GREATEST_NUMBER, MOST_JOBS, MOST_TICKS};
 use poet_io::read_number_in;
 use run_model::Tick;
 use std::alloc::{AllocError, Global};
 use task_sheet::Job;
 
-/// The most jobs of a run.
-const MOST_JOBS: u64 = 20_000;
+/// The greatest release: that of a job which arrives last, and whose task has the greatest jitter.
+const GREATEST_RELEASE: u64 = 2 * GREATEST_NUMBER;
 
-/// The most ticks of a run.
-const MOST_TICKS: u64 = 100_000;
-
-/// The greatest number in the line of a job.
-const LIMIT: u64 = 1_000_000_000;
+/// The version that the first line names.
+pub(crate) fn read_version(line: &[u8]) -> Option<Version>
+    ensures { result ≡ version_of line.now }
+{
+    if line == b"poet-run 1".as_slice() {
+        Some(Version::First)
+    } else if line == b"poet-run 2".as_slice() {
+        Some(Version::Second)
+    } else {
+        None
+    }
+}
 
 /// The numbers of jobs and ticks.
 pub(crate) fn read_counts(line: &[u8]) -> Option<(u64, u64)>
     ensures counts { result ≡ counts_of line.now }
-    ensures few_jobs { IfSome result (λ n. n.0 ≤ 20000) }
-    ensures few_ticks { IfSome result (λ n. n.1 ≤ 100000) }
+    ensures few_jobs { IfSome result (λ n. n.0 ≤ most_jobs) }
+    ensures few_ticks { IfSome result (λ n. n.1 ≤ most_ticks) }
 {
     let mut words = Words::new(line);
     let first = words.next()?;
@@ -37,7 +47,7 @@ pub(crate) fn read_counts(line: &[u8]) -> Option<(u64, u64)>
     if words.next().is_some() || first != b"jobs".as_slice() || second != b"ticks".as_slice() {
         return None;
     }
-    let jobs = read_number_in(jobs, 0, MOST_JOBS)?;
+    let jobs = read_number_in(jobs, 0, MOST_JOBS as u64)?;
     let ticks = read_number_in(ticks, 0, MOST_TICKS)?;
     Some((jobs, ticks))
 }
@@ -86,7 +96,7 @@ fn read_job_stretch(
     jobs: u64,
     left: u64,
 ) -> Option<(Tick, u64)>
-    requires { jobs ≤ 20000 }
+    requires { jobs ≤ most_jobs }
     ensures few { IfSome result (λ s. s.1 ≤ left) }
     ensures stretch { option_map (λ s. stretch s.0 s.1) result ≡
         job_stretch jobs left first.now job.now count.now }
@@ -103,7 +113,7 @@ fn read_job_stretch(
 ///
 /// There are so many jobs, and `left` ticks are left.
 pub(crate) fn read_stretch(line: &[u8], jobs: u64, left: u64) -> Option<(Tick, u64)>
-    requires { jobs ≤ 20000 }
+    requires { jobs ≤ most_jobs }
     ensures few { IfSome result (λ s. s.1 ≤ left) }
     ensures stretch { option_map (λ s. stretch s.0 s.1) result ≡ stretch_of jobs left line.now }
 {
@@ -119,12 +129,19 @@ pub(crate) fn read_stretch(line: &[u8], jobs: u64, left: u64) -> Option<(Tick, u
     read_job_stretch(first, second, third, jobs, left)
 }
 
-/// A number in the line of a job.
+/// A number in the line of a job, but for the release.
 fn read_job_number(word: &[u8]) -> Option<u64>
     ensures number { result ≡ job_number word.now }
-    ensures small { IfSome result (λ n. n ≤ 1000000000) }
+    ensures small { IfSome result (λ n. n ≤ greatest_number) }
 {
-    read_number_in(word, 0, LIMIT)
+    read_number_in(word, 0, GREATEST_NUMBER)
+}
+
+/// A job's release.
+fn read_release(word: &[u8]) -> Option<u64>
+    ensures { result ≡ release_number word.now }
+{
+    read_number_in(word, 0, GREATEST_RELEASE)
 }
 
 /// The segments that the words are, of which there are at most `room`.
@@ -146,20 +163,53 @@ fn read_segments(alloc: Global, words: Words<'_>, room: u64) -> Result<Option<Ve
     Ok(Some(segments))
 }
 
-/// The numbers of a job: its task, its arrival and its cost.
-fn read_job_numbers(task: &[u8], arrival: &[u8], cost: &[u8]) -> Option<(u32, u64, u64)>
-    ensures { option_map (λ n. make_job n.0 n.1 n.2 []) result ≡
-        job_with (job_number task.now) (job_number arrival.now) (job_number cost.now) (Some []) }
+/// The word of the release, behind that of the arrival, which stands for it in the first version.
+fn release_word<'a>(version: Version, arrival: &'a [u8], words: &mut Words<'a>) -> Option<&'a [u8]>
+    ensures some { IfSome result (λ release.
+        from_release version arrival.now (unread words.old) ≡ release.now ∷ unread words.new) }
+    ensures none { IfNone result (from_release version arrival.now (unread words.old) ≡ []) }
 {
-    let task = read_job_number(task)?;
-    let arrival = read_job_number(arrival)?;
-    let cost = read_job_number(cost)?;
-    Some((task as u32, arrival, cost))
+    match version {
+        Version::First => Some(arrival),
+        Version::Second => words.next(),
+    }
 }
 
-/// The job of a line, with at most `room` segments. It is released at its arrival.
-pub(crate) fn read_job(alloc: Global, line: &[u8], room: u64) -> Result<Option<Job>, AllocError>
-    ensures job { IfOk result (λ job. job ≡ job_of room line.now) }
+/// The numbers of a job.
+#[derive(Clone, Copy)]
+struct Numbers {
+    task: u32,
+    arrival: u64,
+    release: u64,
+    cost: u64,
+}
+
+/// The numbers of a job that these words say.
+fn read_numbers(task: &[u8], arrival: &[u8], release: &[u8], cost: &[u8]) -> Option<Numbers>
+    ensures { option_map (λ n. make_job n.task n.arrival n.release n.cost []) result ≡
+        job_with (job_number task.now) (job_number arrival.now) (release_number release.now)
+        (job_number cost.now) (Some []) }
+{
+    let task = read_job_number(task)? as u32;
+    let arrival = read_job_number(arrival)?;
+    let release = read_release(release)?;
+    let cost = read_job_number(cost)?;
+    Some(Numbers {
+        task,
+        arrival,
+        release,
+        cost,
+    })
+}
+
+/// The job of a line in this version, with at most `room` segments.
+pub(crate) fn read_job(
+    alloc: Global,
+    line: &[u8],
+    version: Version,
+    room: u64,
+) -> Result<Option<Job>, AllocError>
+    ensures job { IfOk result (λ job. job ≡ job_of version room line.now) }
     ensures few { IfOk result (λ job. IfSome job (λ j. length j.segs ≤ room)) }
 {
     let mut words = Words::new(line);
@@ -172,23 +222,26 @@ pub(crate) fn read_job(alloc: Global, line: &[u8], room: u64) -> Result<Option<J
     let Some(arrival) = words.next() else {
         return Ok(None);
     };
+    let Some(release) = release_word(version, arrival, &mut words) else {
+        return Ok(None);
+    };
     let Some(cost) = words.next() else {
         return Ok(None);
     };
     if first != b"j".as_slice() {
         return Ok(None);
     }
-    let Some((task, arrival, cost)) = read_job_numbers(task, arrival, cost) else {
+    let Some(numbers) = read_numbers(task, arrival, release, cost) else {
         return Ok(None);
     };
     let Some(segs) = read_segments(alloc, words, room)? else {
         return Ok(None);
     };
     Ok(Some(Job {
-        task,
-        arrival,
-        release: arrival,
-        cost,
+        task: numbers.task,
+        arrival: numbers.arrival,
+        release: numbers.release,
+        cost: numbers.cost,
         segs: Items::new(segs),
     }))
 }

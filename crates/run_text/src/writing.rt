@@ -1,6 +1,7 @@
 //! Writing a run.
 
 ghost use Rattle.std.specs.Prelude.{◌≡◌, ◌++◌, flat_map, OnOk, IfOk};
+ghost use Rattle.run_text.specs.declared.version.Version.TheVariants.{Second};
 ghost use Rattle.run_text.specs.Text.{segment_text, job_line, is_same, stretch, tick_words, stretch_line, with_front, stretches_of, counts_line, text_of, IsWithinLimits};
 
 use poet_io::{push_field, push_number};
@@ -25,11 +26,12 @@ fn push_segments(out: &mut Vec<u8>, segments: &[u64]) -> Result<(), AllocError>
 }
 
 fn push_job(out: &mut Vec<u8>, job: &Job) -> Result<(), AllocError>
-    ensures { OnOk result (out.new.items ≡ out.old.items ++ job_line job.now) }
+    ensures { OnOk result (out.new.items ≡ out.old.items ++ job_line Second job.now) }
 {
     out.extend_from_slice(b"j ")?;
     push_field(out, u64::from(job.task), b' ')?;
     push_field(out, job.arrival, b' ')?;
+    push_field(out, job.release, b' ')?;
     push_number(out, job.cost)?;
     push_segments(out, job.segs.as_slice())?;
     out.push(b'\n')?;
@@ -37,7 +39,7 @@ fn push_job(out: &mut Vec<u8>, job: &Job) -> Result<(), AllocError>
 }
 
 fn push_jobs(out: &mut Vec<u8>, jobs: &[Job]) -> Result<(), AllocError>
-    ensures { OnOk result (out.new.items ≡ out.old.items ++ flat_map job_line jobs.now) }
+    ensures { OnOk result (out.new.items ≡ out.old.items ++ flat_map (job_line Second) jobs.now) }
 {
     for job in jobs {
         push_job(out, job)?;
@@ -120,7 +122,7 @@ fn push_counts(out: &mut Vec<u8>, run: &Run) -> Result<(), AllocError>
 pub(crate) fn push_run(out: &mut Vec<u8>, run: &Run) -> Result<(), AllocError>
     ensures { OnOk result (out.new.items ≡ out.old.items ++ text_of run.now) }
 {
-    out.extend_from_slice(b"poet-run 1\n")?;
+    out.extend_from_slice(b"poet-run 2\n")?;
     push_counts(out, run)?;
     push_jobs(out, run.jobs.as_slice())?;
     push_ticks(out, run.ticks.as_slice())?;
@@ -128,11 +130,11 @@ pub(crate) fn push_run(out: &mut Vec<u8>, run: &Run) -> Result<(), AllocError>
     Ok(())
 }
 
-/// The one text of a run.
+/// The text of a run, in the second version.
 ///
 /// The run must be within the limits: at most 20,000 jobs, 100,000 ticks and 1,000,000 segments
-/// over all jobs, no number of a job above 10^9, jobs that are released at their arrivals, and ticks
-/// that run only jobs that are there.
+/// over all jobs, no release above 2 * 10^9, no other number of a job above 10^9, and ticks that run
+/// only jobs that are there.
 pub fn write_run(alloc: Global, run: &Run) -> Result<Vec<u8>, AllocError>
     requires { IsWithinLimits run.now }
     ensures { IfOk result (λ text. text.items ≡ text_of run.now) }

@@ -1,5 +1,6 @@
 -- The rules of a compliant run, each as a test of one job, one tick, or one job at a tick.
 use Rattle.std.specs.Prelude.{◌≡◌, ℕ, ◌+◌, ◌-◌, ◌<◌, ◌≤◌, ◌↔◌, ◌==◌, ◌&&◌, Bool, true, false, not, length, nat_le, nat_lt}
+use Rattle.lists.specs.Limits.{greatest_number}
 use Rattle.lists.specs.Firsts.{all_below}
 use Rattle.curve.specs.Curves.{alpha_of}
 use Rattle.task_sheet.specs.SheetParts.{SheetParts}
@@ -20,7 +21,7 @@ AreOf sheet run = (k : ℕ) → k < length run.jobs → IsOf sheet (job_at run k
 
 -- every job arrives by 10^9
 abbrev pub AreEarly : Run → Type 0
-AreEarly run = (k : ℕ) → k < length run.jobs → (job_at run k).arrival ≤ 1000000000
+AreEarly run = (k : ℕ) → k < length run.jobs → (job_at run k).arrival ≤ greatest_number
 
 -- job k is of a task of the sheet, and fits it
 abbrev pub does_fit : CutMeaning → SheetParts → Run → ℕ → Bool

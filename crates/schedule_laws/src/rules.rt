@@ -119,7 +119,8 @@ pub fn priority_broken<P: Policy, M: Preemption>(sheet: &Sheet, run: &Run, t: u6
     requires tasks { AreOf sheet.now run.now }
     requires named { (k : ℕ) → tick_at run.now t ≡ Runs k → k < length run.now.jobs }
     requires arrivals { AreEarly run.now }
-    ensures { IsFirstBelow (λ n. is_priority_broken_by P.meaning M.cuts sheet.now run.now t n ≡ true)
+    ensures { IsFirstBelow (λ n.
+        is_priority_broken_by P.meaning M.cuts sheet.now run.now t n ≡ true)
         (length run.now.jobs) result }
 {
     for n in 0..run.jobs.len() as u32 {

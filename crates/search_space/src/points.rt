@@ -1,5 +1,6 @@
 //! Numbers that tell offsets apart, and the offsets at which one of them changes.
 ghost use Rattle.std.specs.Prelude.{◌≡◌, ◌≤◌, ◌<◌, ◌-◌, length};
+ghost use Rattle.lists.specs.Limits.{greatest_number};
 ghost use Rattle.lists.specs.Searches.{IsFirstBelow};
 ghost use Rattle.policy.specs.Offsets.{cap_count, compared_of};
 ghost use Rattle.search_space.specs.Points.{same_at, is_point as is_point_of, IsAround, IsPointAfter};
@@ -25,7 +26,7 @@ fn admitted(curve: &Prefix, cap: Cap) -> u128
 pub fn compared<P: Policy>(sheet: &Sheet, i: u32, a: u64, o: u32) -> u128
     requires i { i < length sheet.now.tasks }
     requires o { o < length sheet.now.tasks }
-    requires offset { a ≤ 1000000000 }
+    requires offset { a ≤ greatest_number }
     ensures { result ≡ compared_of P.meaning sheet.now i a o }
 {
     let task = sheet.task(o);
@@ -39,8 +40,8 @@ pub fn compared<P: Policy>(sheet: &Sheet, i: u32, a: u64, o: u32) -> u128
 /// Whether no task's number tells the offsets `a` and `b` apart.
 pub fn is_same<P: Policy>(sheet: &Sheet, i: u32, a: u64, b: u64) -> bool
     requires task { i < length sheet.now.tasks }
-    requires a { a ≤ 1000000000 }
-    requires b { b ≤ 1000000000 }
+    requires a { a ≤ greatest_number }
+    requires b { b ≤ greatest_number }
     ensures { result ≡ same_at P.meaning sheet.now i a b }
 {
     for o in 0..sheet.len() {
@@ -56,7 +57,7 @@ pub fn is_same<P: Policy>(sheet: &Sheet, i: u32, a: u64, b: u64) -> bool
 #[tactic(auto, unfolding(crate::specs::Points::is_point))]
 pub fn is_point<P: Policy>(sheet: &Sheet, i: u32, a: u64) -> bool
     requires task { i < length sheet.now.tasks }
-    requires offset { a ≤ 1000000000 }
+    requires offset { a ≤ greatest_number }
     ensures { result ≡ is_point_of P.meaning sheet.now i a }
 {
     a == 0 || !is_same::<P>(sheet, i, a - 1, a)
@@ -67,7 +68,7 @@ pub fn is_point<P: Policy>(sheet: &Sheet, i: u32, a: u64) -> bool
 fn gallop<P: Policy>(sheet: &Sheet, i: u32, a: u64, below: u64) -> (u64, u64)
     requires task { i < length sheet.now.tasks }
     requires after { a < below }
-    requires below { below ≤ 1000000000 }
+    requires below { below ≤ greatest_number }
     ensures { IsAround P.meaning sheet.now i a below result.0 result.1 }
 {
     let mut same = a;
@@ -89,7 +90,7 @@ fn gallop<P: Policy>(sheet: &Sheet, i: u32, a: u64, below: u64) -> (u64, u64)
 /// one of these offsets and at the other at the latest.
 fn bisect<P: Policy>(sheet: &Sheet, i: u32, a: u64, below: u64, around: (u64, u64)) -> u64
     requires task { i < length sheet.now.tasks }
-    requires below { below ≤ 1000000000 }
+    requires below { below ≤ greatest_number }
     requires around { IsAround P.meaning sheet.now i a below around.0 around.1 }
     ensures { IsAround P.meaning sheet.now i a below (result - 1) result }
 {
@@ -108,8 +109,8 @@ fn bisect<P: Policy>(sheet: &Sheet, i: u32, a: u64, below: u64, around: (u64, u6
 /// The least point of task `i` that is greater than `a` and smaller than `below`.
 pub fn next_point<P: Policy>(sheet: &Sheet, i: u32, a: u64, below: u64) -> Option<u64>
     requires task { i < length sheet.now.tasks }
-    requires after { a ≤ 1000000000 }
-    requires below { below ≤ 1000000000 }
+    requires after { a ≤ greatest_number }
+    requires below { below ≤ greatest_number }
     ensures { IsFirstBelow (IsPointAfter P.meaning sheet.now i a) below result }
 {
     if below <= a {

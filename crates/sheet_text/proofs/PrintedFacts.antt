@@ -63,9 +63,13 @@ flat_cut Never = omega arith
 flat_cut (Fixed segments) = omega (arith, flat_numbers segments)
 flat_cut (Floating longest) = omega arith
 
+flat_task : (t : Task) (j : ℕ) → depth (task_data (record t { jitter = j })) ≤ 4
+flat_task t zero = omega (arith, flat_cut t.cut, flat_steps t.curve.steps)
+flat_task t (suc j) = omega (arith, flat_cut t.cut, flat_steps t.curve.steps)
+
 flat_tasks : (ts : List Task) → items_depth (items_of (map task_data ts)) ≤ 4
 flat_tasks [] = omega arith
-flat_tasks (t ∷ ts) = omega (arith, flat_tasks ts, flat_cut t.cut, flat_steps t.curve.steps)
+flat_tasks (t ∷ ts) = omega (arith, flat_tasks ts, flat_task t t.jitter)
 
 pub flat_sheet : (p : PolicyKind) (s : SupplySpec) (ts : List Task) → members_depth (sheet_data (record { policy = p; supply = s; tasks = ts })) ≤ 80
 flat_sheet p Whole ts = omega (arith, flat_tasks ts)

@@ -1,5 +1,5 @@
 -- What is printed reads again.
-use Rattle.std.proofs.Common.{◌≡◌, ℕ, ℤ, pos, ◌+◌, ◌<◌, ◌≤◌, true, suc, List, [], ◌∷◌, ◌++◌, length, length-append, get_or, map, refl, ap, ◌∙◌, arith, append_assoc, Some, Ok}
+use Rattle.std.proofs.Common.{◌≡◌, ℕ, ℤ, pos, ◌+◌, ◌<◌, ◌≤◌, true, zero, suc, List, [], ◌∷◌, ◌++◌, length, length-append, get_or, map, refl, ap, ◌∙◌, arith, append_assoc, Some, Ok}
 use Rattle.std.proofs.lemmas.Bool.{and_from, le-leb}
 use Rattle.std.proofs.lemmas.List.{append-nil, map_push}
 use Rattle.std.proofs.lemmas.Int.{ints}
@@ -53,26 +53,37 @@ cut_again n cost Never h = refl
 cut_again n cost (Fixed segments) h = rw (numbers_again segments, h) refl
 cut_again n cost (Floating longest) h = rw h refl
 
--- a valid task has no jitter and no priority point, and neither is printed
-no_jitter : (t : Task) → t.jitter ≤ most_jitter → 0 ≡ t.jitter
-unfolding most_jitter
-no_jitter t h = omega (arith, h)
-
+-- a valid task has no priority point, and none is printed
 no_point : (t : Task) → is_priority_point t.point ≡ true → pos 0 ≡ t.point
 unfolding most_point
 no_point t h = grind (arith, ints)
 
-nothing_lost : (t : Task) → t.jitter ≤ most_jitter → is_priority_point t.point ≡ true → record t { jitter = 0; point = pos 0 } ≡ t
-nothing_lost t h k =
-    ap (λ (n : ℕ). record t { jitter = n; point = pos 0 }) (no_jitter t h) ∙ ap (λ (q : ℤ). record t { point = q }) (no_point t k)
+nothing_lost : (t : Task) → is_priority_point t.point ≡ true → record t { point = pos 0 } ≡ t
+nothing_lost t k = ap (λ (q : ℤ). record t { point = q }) (no_point t k)
+
+up_to : (most n : ℕ) → n ≤ most → is_between 0 most n ≡ true
+up_to most n h = and_from _ _ (le-leb 0 n (omega arith)) (le-leb n most h)
+
+-- with any jitter, which is printed where it is above 0
+jitter_again : (policy : PolicyKind) (n : ℕ) (names : List (List ℕ)) (t : Task) (j : ℕ) → j ≤ most_jitter → task_rule n names t ≡ Ok tt → IsCurve t.curve →
+    task_of policy n names (task_data (record t { jitter = j })) ≡ Ok (record t { jitter = j; point = pos 0 })
+unfolding task_of name_rule
+jitter_again policy n names t zero high rule curve =
+    let means = task_means n names t rule in
+    let priority = up_to 1000000000 t.priority means.priority in
+    let cut = cut_again n t.cost t.cut (cut_passes n t.cost t.cut (positive_high t.cost means.cost) means.cut) in
+    rw (means.name, means.fresh, means.cost, means.deadline, priority, curve_again _ t.curve curve, cut) refl
+jitter_again policy n names t (suc j) high rule curve =
+    let means = task_means n names t rule in
+    let priority = up_to 1000000000 t.priority means.priority in
+    let jitter = up_to most_jitter (suc j) high in
+    let cut = cut_again n t.cost t.cut (cut_passes n t.cost t.cut (positive_high t.cost means.cost) means.cut) in
+    rw (means.name, means.fresh, means.cost, means.deadline, priority, jitter, curve_again _ t.curve curve, cut) refl
 
 task_again : (policy : PolicyKind) (n : ℕ) (names : List (List ℕ)) (t : Task) → task_rule n names t ≡ Ok tt → IsCurve t.curve → task_of policy n names (task_data t) ≡ Ok t
-unfolding task_of name_rule
 task_again policy n names t rule curve =
     let means = task_means n names t rule in
-    let priority : is_between 0 1000000000 t.priority ≡ true = and_from _ _ (le-leb 0 t.priority (omega arith)) (le-leb t.priority 1000000000 means.priority) in
-    let cut = cut_again n t.cost t.cut (cut_passes n t.cost t.cut (positive_high t.cost means.cost) means.cut) in
-    rw (means.name, means.fresh, means.cost, means.deadline, priority, curve_again _ t.curve curve, cut) (ap Ok (nothing_lost t means.jitter means.point))
+    jitter_again policy n names t t.jitter means.jitter rule curve ∙ ap Ok (nothing_lost t means.point)
 
 tasks_again : (policy : PolicyKind) (done ts : List Task) → tasks_rule (length done) (names_of done) ts ≡ Ok tt → ((i : ℕ) → i < length ts → IsCurve (get_or ts i no_task).curve) → tasks_after policy done (items_of (map task_data ts)) ≡ Ok (done ++ ts)
 unfolding tasks_after

@@ -3,12 +3,13 @@ use Rattle.std.proofs.Common.{◌≡◌, ℕ, pos, List, [], ◌∷◌, ◌++◌
 use lib.Utf8.{encode}
 use Rattle.std.specs.Str.{is_utf8, chars}
 use Rattle.toml.proofs.OnLiterals.{toml_on_literals}
-use Rattle.task_sheet.specs.declared.tasks.PolicyKind.TheVariants.{Fp}
+use Rattle.task_sheet.specs.declared.tasks.PolicyKind.TheVariants.{Fp, Edf}
 use Rattle.task_sheet.specs.declared.tasks.SupplySpec.TheVariants.{Unit as Whole}
-use Rattle.task_sheet.specs.declared.tasks.Cut.TheVariants.{Floating}
+use Rattle.task_sheet.specs.declared.tasks.Cut.TheVariants.{Full, Floating}
 use Rattle.task_sheet.specs.declared.refusal.Place.TheVariants as places
 use Rattle.task_sheet.specs.declared.refusal.Field.TheVariants as fields
 use Rattle.task_sheet.specs.declared.refusal.SheetRefusal.TheVariants.{Text, Missing, Kind, Range, Order, Both, Twice, Sum}
+use Rattle.task_sheet.specs.Rules.{most_jitter}
 use Rattle.sheet_text.specs.SupplyRows.{promised_rule}
 use Rattle.curve.specs.Curves.{periodic}
 use Rattle.sheet_text.specs.CurveRows.{curve_rule}
@@ -59,6 +60,15 @@ segments_of_less = refl
 pub second_of_a_name : sheet_of_text (codes "policy = \"edf\"\n" ++ task_text (codes "cost = 4\ndeadline = 9\nperiod = 9\n") ++ task_text []) ≡ Err (Twice 1)
 unfolding sheet_of_text is_utf8 chars sheet_of tasks_after task_of name_rule toml_on_literals
 second_of_a_name = refl
+
+pub jitter_too_great : sheet_of_text (codes "policy = \"edf\"\n" ++ task_text (codes "cost = 4\ndeadline = 9\njitter = 1000000001\n")) ≡ Err (Range (places.Task 0) fields.Jitter)
+unfolding sheet_of_text is_utf8 chars sheet_of tasks_after task_of name_rule most_jitter toml_on_literals
+jitter_too_great = refl
+
+pub one_late_task : sheet_of_text (codes "policy = \"edf\"\n" ++ task_text (codes "cost = 4\ndeadline = 9\njitter = 3\nperiod = 8\n"))
+    ≡ Ok (record { policy = Edf; supply = Whole; tasks = record { name = codes "a"; cost = 4; deadline = 9; priority = 0; jitter = 3; point = pos 0; curve = periodic 8; cut = Full } ∷ [] })
+unfolding sheet_of_text is_utf8 chars sheet_of tasks_after task_of name_rule most_jitter toml_on_literals
+one_late_task = refl
 
 pub one_task : sheet_of_text (codes "policy = \"fp\"\n" ++ task_text (codes "cost = 4\ndeadline = 9\npriority = 2\nperiod = 8\npreemption = { floating = 4 }\n"))
     ≡ Ok (record { policy = Fp; supply = Whole; tasks = record { name = codes "a"; cost = 4; deadline = 9; priority = 2; jitter = 0; point = pos 0; curve = periodic 8; cut = Floating 4 } ∷ [] })

@@ -1,4 +1,5 @@
 use Rattle.std.specs.Prelude.{ℕ, List, [], ◌∷◌, codes, Option, Some, None, Result, Ok, Err}
+use Rattle.lists.specs.Limits.{greatest_number}
 use Rattle.toml.specs.Data.{Data, array, no_items, item}
 use Rattle.curve.specs.declared.prefix.Step.{Step}
 use Rattle.curve.specs.declared.checking.CurveRefusal.{CurveRefusal}
@@ -58,7 +59,7 @@ curve_rule place d = do
 
 -- a period is the curve of one job in each
 abbrev pub period_rule : Place → Data → Result Curve SheetRefusal
-period_rule place d = whole_rule place fields.Period 1 1000000000 d >>= (λ period. Ok (periodic period))
+period_rule place d = whole_rule place fields.Period 1 greatest_number d >>= (λ period. Ok (periodic period))
 
 -- task n has a period or a curve, and not both
 abbrev pub arrivals_rule : ℕ → Option Data → Option Data → Result Curve SheetRefusal

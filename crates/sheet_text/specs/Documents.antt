@@ -1,6 +1,7 @@
 use Rattle.std.specs.Prelude.{ℕ, ℤ, pos, negsuc, ◌+◌, ◌&&◌, Bool, true, is_some, List, [], ◌∷◌, Option, Some, None, option_map, Result, Ok, Err, if◌then◌else◌, bytes_eq}
 use Rattle.std.specs.Str.{is_utf8}
 use Rattle.std.specs.List.{list_any}
+use Rattle.lists.specs.Limits.{greatest_number}
 use Rattle.toml.specs.Data.{Data, integer, array, table, Items, no_items, item, Members, no_members, member, get, as_integer, as_table}
 use Rattle.toml.specs.Parse.{parse_document}
 use Rattle.lists.specs.Ranges.{is_between}
@@ -44,7 +45,7 @@ whole_rule place field low high _ = Err (Kind place field)
 
 -- a number from 1 to 10^9, which has to be there
 abbrev pub positive_rule : List ℕ → Place → Field → Data → Result ℕ SheetRefusal
-positive_rule key place field d = needed_rule key place field d >>= whole_rule place field 1 1000000000
+positive_rule key place field d = needed_rule key place field d >>= whole_rule place field 1 greatest_number
 
 -- a negative integer as 0, which is in no range of these
 abbrev pub natural : ℤ → ℕ

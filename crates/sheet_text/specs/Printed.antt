@@ -1,5 +1,5 @@
 -- The document that is printed for a sheet.
-use Rattle.std.specs.Prelude.{ℕ, pos, codes, List, map}
+use Rattle.std.specs.Prelude.{ℕ, zero, suc, pos, codes, List, map}
 use Rattle.std.specs.Ordering.{nat_cmp, match_ordering}
 use Rattle.std.specs.Cmp.Lexicographic.{slice_cmp}
 use Rattle.toml.specs.Data.{Data, string, integer, array, table, no_items, item, Members, no_members, member}
@@ -38,14 +38,23 @@ cut_data Never = string (codes "never")
 cut_data (Fixed segments) = table (member (codes "fixed") (array_data number_data segments) no_members)
 cut_data (Floating longest) = table (member (codes "floating") (number_data longest) no_members)
 
-abbrev pub task_data : Task → Data
-task_data t =
-    table (member (codes "cost") (number_data t.cost)
+-- the members with the jitter, if it is above 0
+abbrev pub put_jitter : ℕ → Members → Members
+put_jitter zero ms = ms
+put_jitter (suc n) ms = put (codes "jitter") (number_data (suc n)) ms
+
+-- the members of a task, but for its jitter
+abbrev pub plain_data : Task → Members
+plain_data t =
+    member (codes "cost") (number_data t.cost)
     (member (codes "curve") (curve_data t.curve)
     (member (codes "deadline") (number_data t.deadline)
     (member (codes "name") (string t.name)
     (member (codes "preemption") (cut_data t.cut)
-    (member (codes "priority") (number_data t.priority) no_members))))))
+    (member (codes "priority") (number_data t.priority) no_members)))))
+
+abbrev pub task_data : Task → Data
+task_data t = table (put_jitter t.jitter (plain_data t))
 
 abbrev pub promise_data : ℕ → List ℕ → Data
 promise_data horizon times = table (member (codes "horizon") (number_data horizon) (member (codes "times") (array_data number_data times) no_members))

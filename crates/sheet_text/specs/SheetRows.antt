@@ -1,4 +1,5 @@
 use Rattle.std.specs.Prelude.{ℕ, List, [], ◌∷◌, codes, Option, Some, None, Result, Ok, Err, if◌then◌else◌, bytes_eq}
+use Rattle.lists.specs.Limits.{most_tasks}
 use Rattle.toml.specs.Data.{Data, string, array, Items, get}
 use Rattle.toml.specs.Text.{are_tables}
 use Rattle.lists.specs.Ranges.{is_between}
@@ -36,7 +37,7 @@ policy_rule _ = Err (Kind places.Top fields.Policy)
 abbrev pub items_rule : Data → Result Items SheetRefusal
 items_rule (array ds) =
     holds (are_tables ds) (Kind places.Top fields.Task)
-    >>= (λ _. holds (is_between 1 256 (items_count ds)) (Range places.Top fields.Task)
+    >>= (λ _. holds (is_between 1 most_tasks (items_count ds)) (Range places.Top fields.Task)
     >>= (λ _. Ok ds))
 items_rule _ = Err (Kind places.Top fields.Task)
 

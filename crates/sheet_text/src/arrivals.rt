@@ -8,8 +8,9 @@ ghost use Rattle.sheet_text.specs.Documents.{all_of, all_in};
 ghost use Rattle.sheet_text.specs.CurveRows.{step_from as step_from_of, step_of as step_of_value, curve_refusal as refusal_of, curve_or_refusal, steps_rule, curve_rule, period_rule, arrivals_rule};
 
 use crate::document::{check_keys, check_table, needed_value};
-use crate::numbers::{GREATEST, number, positive, whole};
+use crate::numbers::{number, positive, whole};
 use curve::{CurveRefusal, Prefix, Step};
+use lists::limits::GREATEST_NUMBER;
 use std::alloc::{AllocError, Global};
 use task_sheet::{Field, Place, SheetRefusal};
 use toml::Value;
@@ -136,7 +137,7 @@ fn periodic(alloc: Global, place: Place, value: &Value) -> Result<Prefix, SheetR
     ensures gives { ReadsAs (λ c. c) result (period_rule place (view value.now)) }
     ensures valid { IfOk result IsCurve }
 {
-    let period = whole(value, place, Field::Period, 1, GREATEST)?;
+    let period = whole(value, place, Field::Period, 1, GREATEST_NUMBER)?;
     Ok(Prefix::periodic(alloc, period)?)
 }
 

@@ -1,17 +1,16 @@
 //! Numbers of a document.
 ghost use Rattle.std.specs.Prelude.{◌≡◌, true, IfOk, option_map};
+ghost use Rattle.lists.specs.Limits.{greatest_number};
 ghost use Rattle.toml.specs.Data.{integer};
 ghost use Rattle.toml.specs.View.{view, items_view};
 ghost use Rattle.lists.specs.Ranges.{is_between};
 ghost use Rattle.sheet_text.specs.Documents.{whole_rule, positive_rule, natural as natural_of, number_of, all_of, all_in};
 
 use crate::document::needed_value;
+use lists::limits::GREATEST_NUMBER;
 use std::alloc::{AllocError, Global};
 use task_sheet::{Field, Place, SheetRefusal};
 use toml::Value;
-
-/// The greatest number of a sheet.
-pub const GREATEST: u64 = 1_000_000_000;
 
 fn in_range(n: i64, place: Place, field: Field, low: u64, high: u64) -> Result<u64, SheetRefusal>
     ensures within { IfOk result (λ n. is_between low high n ≡ true) }
@@ -42,7 +41,7 @@ pub fn whole(
 
 /// An integer from 1 to 10^9 at a key, which has to be there.
 pub fn positive(value: &Value, key: &str, place: Place, field: Field) -> Result<u64, SheetRefusal>
-    ensures within { IfOk result (λ n. is_between 1 1000000000 n ≡ true) }
+    ensures within { IfOk result (λ n. is_between 1 greatest_number n ≡ true) }
     ensures gives { result ≡ positive_rule key.now place field (view value.now) }
 {
     whole(
@@ -50,7 +49,7 @@ pub fn positive(value: &Value, key: &str, place: Place, field: Field) -> Result<
         place,
         field,
         1,
-        GREATEST,
+        GREATEST_NUMBER,
     )
 }
 

@@ -1,12 +1,13 @@
 //! Printing a sheet.
 ghost use Rattle.std.specs.Prelude.{◌≡◌, ◌<◌, ◌≤◌, ◌^◌, true, map, IfOk, OnOk, Some, Ok};
 ghost use Rattle.std.specs.List.{list_all};
+ghost use Rattle.lists.specs.Limits.{most_parts};
 ghost use Rattle.toml.specs.Data.{table, member, no_members};
 ghost use Rattle.toml.specs.View.{view, table_view};
 ghost use Rattle.curve.specs.Validity.{is_step};
 ghost use Rattle.task_sheet.specs.Rules.{are_in_range};
 ghost use Rattle.task_sheet.specs.Sheets.{IsPromise, IsTask, IsValidSheet};
-ghost use Rattle.sheet_text.specs.Printed.{put as put_of, array_data, number_data, step_data, curve_data, cut_data, task_data, promise_data, put_promise as put_promise_of, sheet_data};
+ghost use Rattle.sheet_text.specs.Printed.{put as put_of, put_jitter as put_jitter_of, array_data, number_data, step_data, curve_data, cut_data, plain_data, task_data, promise_data, put_promise as put_promise_of, sheet_data};
 ghost use Rattle.sheet_text.specs.Documents.{document_of};
 ghost use Rattle.sheet_text.specs.SheetRows.{sheet_of_text};
 
@@ -31,7 +32,7 @@ fn number_value(n: u64) -> Value
 }
 
 fn numbers_value(alloc: Global, numbers: &[u64]) -> Result<Value, AllocError>
-    requires { are_in_range 1000 numbers.now ≡ true }
+    requires { are_in_range most_parts numbers.now ≡ true }
     ensures { IfOk result (λ v. view v ≡ array_data number_data numbers.now) }
 {
     let mut values = Vec::new(alloc);
@@ -97,9 +98,9 @@ fn cut_value(alloc: Global, task: &Task) -> Result<Value, AllocError>
     }
 }
 
-fn task_value(alloc: Global, task: &Task) -> Result<Value, AllocError>
+fn plain_table(alloc: Global, task: &Task) -> Result<Table, AllocError>
     requires { IsTask task.now }
-    ensures { IfOk result (λ v. view v ≡ task_data task.now) }
+    ensures { IfOk result (λ t. table_view t ≡ plain_data task.now) }
 {
     let mut table = Table::new(alloc);
     put(
@@ -113,6 +114,26 @@ fn task_value(alloc: Global, task: &Task) -> Result<Value, AllocError>
     put(alloc, &mut table, "priority", number_value(task.priority))?;
     put(alloc, &mut table, "curve", curve_value(alloc, &task.curve)?)?;
     put(alloc, &mut table, "preemption", cut_value(alloc, task)?)?;
+    Ok(table)
+}
+
+/// The jitter, if it is above 0.
+fn put_jitter(alloc: Global, table: &mut Table, jitter: u64) -> Result<(), AllocError>
+    requires { jitter < 2 ^ 63 }
+    ensures { OnOk result (table_view table.new ≡ put_jitter_of jitter (table_view table.old)) }
+{
+    match jitter {
+        0 => Ok(()),
+        _ => put(alloc, table, "jitter", number_value(jitter)),
+    }
+}
+
+fn task_value(alloc: Global, task: &Task) -> Result<Value, AllocError>
+    requires { IsTask task.now }
+    ensures { IfOk result (λ v. view v ≡ task_data task.now) }
+{
+    let mut table = plain_table(alloc, task)?;
+    put_jitter(alloc, &mut table, task.jitter)?;
     Ok(Value::Table(table))
 }
 
@@ -128,7 +149,7 @@ fn tasks_value(alloc: Global, sheet: &Sheet) -> Result<Value, AllocError>
 
 fn promise_value(alloc: Global, horizon: u64, times: &[u64]) -> Result<Value, AllocError>
     requires horizon { horizon < 2 ^ 63 }
-    requires times { are_in_range 1000 times.now ≡ true }
+    requires times { are_in_range most_parts times.now ≡ true }
     ensures { IfOk result (λ v. view v ≡ promise_data horizon times.now) }
 {
     let mut table = Table::new(alloc);

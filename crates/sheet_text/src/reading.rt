@@ -1,5 +1,6 @@
 //! Reading a sheet.
 ghost use Rattle.std.specs.Prelude.{◌≡◌, ◌≤◌, length, IfOk};
+ghost use Rattle.lists.specs.Limits.{most_tasks};
 ghost use Rattle.toml.specs.Data.{array};
 ghost use Rattle.toml.specs.Text.{are_tables as are_tables_of};
 ghost use Rattle.toml.specs.View.{view, items_view};
@@ -10,6 +11,7 @@ ghost use Rattle.sheet_text.specs.SheetRows.{policy_named as policy_named_of, po
 use crate::document::{check_keys, document, needed_value};
 use crate::promises::supply_of;
 use crate::tasks::tasks_of;
+use lists::limits::MOST_TASKS;
 use std::alloc::Global;
 use task_sheet::{Field, Place, PolicyKind, Sheet, SheetRefusal};
 use toml::Value;
@@ -54,7 +56,7 @@ fn are_tables(values: &[Value]) -> bool
 fn counted(items: &[Value]) -> Result<&[Value], SheetRefusal>
     ensures gives { seen (λ v. items_view v.now) result ≡
         items_rule (array (items_view items.now)) }
-    ensures few { IfOk result (λ v. length v.now ≤ 256) }
+    ensures few { IfOk result (λ v. length v.now ≤ most_tasks) }
     ensures some { IfOk result (λ v. 1 ≤ length v.now) }
 {
     let place = Place::Top;
@@ -63,7 +65,7 @@ fn counted(items: &[Value]) -> Result<&[Value], SheetRefusal>
         return Err(SheetRefusal::Kind { place, field });
     }
     match items.len() {
-        1..=256 => Ok(items),
+        1..=MOST_TASKS => Ok(items),
         _ => Err(SheetRefusal::Range { place, field }),
     }
 }
@@ -71,7 +73,7 @@ fn counted(items: &[Value]) -> Result<&[Value], SheetRefusal>
 /// 1 to 256 tables.
 fn task_items(value: &Value) -> Result<&[Value], SheetRefusal>
     ensures gives { seen (λ v. items_view v.now) result ≡ items_rule (view value.now) }
-    ensures few { IfOk result (λ v. length v.now ≤ 256) }
+    ensures few { IfOk result (λ v. length v.now ≤ most_tasks) }
     ensures some { IfOk result (λ v. 1 ≤ length v.now) }
 {
     match value {

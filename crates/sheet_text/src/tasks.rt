@@ -1,31 +1,34 @@
 //! The tasks of a document.
 ghost use Rattle.std.specs.Prelude.{◌≡◌, ◌≤◌, ◌<◌, ◌∷◌, ◌++◌, [], ℕ, true, false, map, length, string_bytes, bytes_eq, codes, Ok, IfOk, slice_index_or};
 ghost use Rattle.std.specs.List.{list_any};
+ghost use Rattle.lists.specs.Limits.{greatest_number, most_tasks};
 ghost use Rattle.toml.specs.Data.{string, get};
 ghost use Rattle.toml.specs.View.{view, items_view};
 ghost use Rattle.curve.specs.Validity.{IsCurve};
 ghost use Rattle.lists.specs.Ranges.{is_between};
-ghost use Rattle.task_sheet.specs.Rules.{is_name as is_name_of, task_rule, tasks_rule};
+ghost use Rattle.task_sheet.specs.Rules.{is_name as is_name_of, most_jitter, task_rule, tasks_rule};
 ghost use Rattle.task_sheet.specs.Sheets.{no_task};
 ghost use Rattle.sheet_text.specs.Readings.{ReadsAs};
 ghost use Rattle.sheet_text.specs.Documents.{whole_rule};
-ghost use Rattle.sheet_text.specs.TaskRows.{name_rule, unsaid_priority as unsaid_of, priority_rule, task_of as task_of_value, tasks_after};
+ghost use Rattle.sheet_text.specs.TaskRows.{name_rule, unsaid_priority as unsaid_of, priority_rule, jitter_rule, task_of as task_of_value, tasks_after};
 
 use crate::arrivals::arrivals;
 use crate::cuts::preemption;
 use crate::document::{check_keys, needed_value};
-use crate::numbers::{GREATEST, positive, whole};
+use crate::numbers::{positive, whole};
 use indexmap::IndexSet;
 use lists::Text;
+use lists::limits::GREATEST_NUMBER;
 use std::alloc::Global;
-use task_sheet::{Field, Place, PolicyKind, SheetRefusal, Task, is_name};
+use task_sheet::{Field, MOST_JITTER, Place, PolicyKind, SheetRefusal, Task, is_name};
 use toml::Value;
 
-const TASK_KEYS: [&str; 7] = [
+const TASK_KEYS: [&str; 8] = [
     "name",
     "cost",
     "deadline",
     "priority",
+    "jitter",
     "period",
     "curve",
     "preemption",
@@ -87,7 +90,7 @@ fn name_of<'a>(
 /// The priority of a task that says none.
 fn unsaid_priority(policy: PolicyKind, place: Place) -> Result<u64, SheetRefusal>
     ensures gives { result ≡ unsaid_of policy place }
-    ensures within { IfOk result (λ n. n ≤ 1000000000) }
+    ensures within { IfOk result (λ n. n ≤ greatest_number) }
 {
     match policy {
         PolicyKind::Fp => Err(SheetRefusal::Missing {
@@ -99,19 +102,38 @@ fn unsaid_priority(policy: PolicyKind, place: Place) -> Result<u64, SheetRefusal
 }
 
 fn said_priority(place: Place, value: &Value) -> Result<u64, SheetRefusal>
-    ensures gives { result ≡ whole_rule place Field.Priority 0 1000000000 (view value.now) }
-    ensures within { IfOk result (λ n. n ≤ 1000000000) }
+    ensures gives { result ≡ whole_rule place Field.Priority 0 greatest_number (view value.now) }
+    ensures within { IfOk result (λ n. n ≤ greatest_number) }
 {
-    whole(value, place, Field::Priority, 0, GREATEST)
+    whole(value, place, Field::Priority, 0, GREATEST_NUMBER)
 }
 
 fn priority_of(policy: PolicyKind, place: Place, task: &Value) -> Result<u64, SheetRefusal>
     ensures gives { result ≡ priority_rule policy place (get (codes "priority") (view task.now)) }
-    ensures within { IfOk result (λ n. n ≤ 1000000000) }
+    ensures within { IfOk result (λ n. n ≤ greatest_number) }
 {
     match task.get("priority") {
         Some(priority) => said_priority(place, priority),
         None => unsaid_priority(policy, place),
+    }
+}
+
+#[tactic(auto, unfolding(task_sheet::specs::Rules::most_jitter))]
+fn said_jitter(place: Place, value: &Value) -> Result<u64, SheetRefusal>
+    ensures gives { result ≡ whole_rule place Field.Jitter 0 most_jitter (view value.now) }
+    ensures within { IfOk result (λ n. n ≤ most_jitter) }
+{
+    whole(value, place, Field::Jitter, 0, MOST_JITTER)
+}
+
+/// The jitter of a task, which is 0 where it says none.
+fn jitter_of(place: Place, task: &Value) -> Result<u64, SheetRefusal>
+    ensures gives { result ≡ jitter_rule place (get (codes "jitter") (view task.now)) }
+    ensures within { IfOk result (λ n. n ≤ most_jitter) }
+{
+    match task.get("jitter") {
+        Some(jitter) => said_jitter(place, jitter),
+        None => Ok(0),
     }
 }
 
@@ -142,6 +164,7 @@ fn task_of(
     let cost = positive(value, "cost", place, Field::Cost)?;
     let deadline = positive(value, "deadline", place, Field::Deadline)?;
     let priority = priority_of(policy, place, value)?;
+    let jitter = jitter_of(place, value)?;
     let curve = arrivals(alloc, n, value)?;
     let cut = preemption(alloc, n, cost, value)?;
     Ok(Task {
@@ -149,7 +172,7 @@ fn task_of(
         cost,
         deadline,
         priority,
-        jitter: 0,
+        jitter,
         point: 0,
         curve,
         cut,
@@ -163,7 +186,7 @@ pub fn tasks_of(
     policy: PolicyKind,
     items: &[Value],
 ) -> Result<Vec<Task>, SheetRefusal>
-    requires { length items.now ≤ 256 }
+    requires { length items.now ≤ most_tasks }
     ensures gives { ReadsAs (λ v. v.items) result (tasks_after policy [] (items_view items.now)) }
     ensures rules { IfOk result (λ v. tasks_rule 0 [] v.items ≡ Ok tt) }
     ensures curves { IfOk result (λ v. (i : ℕ) → i < length v.items →

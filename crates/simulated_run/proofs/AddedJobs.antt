@@ -1,6 +1,6 @@
 -- One more job.
-use Rattle.std.proofs.Common.{◌≡◌, ℕ, suc, ◌+◌, ◌-◌, ◌<◌, ◌≤◌, ◌==◌, Bool, true, false, cond, length, refl, sym, ◌∙◌, ap, subst, inl, inr, arith}
-use Rattle.std.proofs.lemmas.Bool.{cases_Bool, cases_lt, and_parts, eqb-true}
+use Rattle.std.proofs.Common.{◌≡◌, ◌≢◌, ℕ, suc, ◌+◌, ◌-◌, ◌<◌, ◌≤◌, ◌==◌, Bool, true, false, cond, [], ◌∷◌, ◌++◌, length, refl, sym, ◌∙◌, ap, subst, inl, inr, arith}
+use Rattle.std.proofs.lemmas.Bool.{cases_Bool, cases_lt, cases_eq, and_parts, eqb-true, eq-eqb, ne_eqb}
 use Rattle.std.proofs.lemmas.Bool.Decides.{nat_tests}
 use Rattle.curve.specs.Curves.{alpha_of}
 use Rattle.curve.proofs.CurveFacts.{alpha_mono}
@@ -11,18 +11,57 @@ use Rattle.run_model.specs.declared.run.Run.{Run}
 use Rattle.run_model.specs.declared.run.Tick.TheVariants.{Runs}
 use Rattle.run_model.specs.Runs.{job_at, tick_at, service_of, ticks_in, IsPending}
 use Rattle.schedule_laws.specs.Compliance.{arrives_in, arrivals_of, IsWithinCurves}
+use Rattle.simulated_run.specs.Jobs.{released_by, last_release}
 use Rattle.simulated_run.specs.SimulatedRun.{World, with_job}
 use Rattle.simulated_run.proofs.RunFacts.{job_kept, job_new, jobs_more, arrivals_more, arrivals_le, service_unlisted}
+use Rattle.simulated_run.proofs.ReleaseFacts.{release_after, release_soon, release_again, last_more, last_within}
 use Rattle.simulated_run.proofs.Soundness.{IsLawful, IsSound, HasRoom}
 
 module _ (w : World) (laws : IsLawful w) (t : ℕ) (run : Run) (sound : IsSound w t run) (j : Job) (of : IsOf w.sheet j)
-    (at_t : j.arrival ≡ t) (prompt : j.release ≡ j.arrival) (fits : w.cuts.fits (task_at w.sheet j.task) j ≡ true) where
-  timely : IsTimely w.sheet j
-  timely = record { after = omega arith; soon = omega arith }
+    (at_t : j.arrival ≡ t) (fits : w.cuts.fits (task_at w.sheet j.task) j ≡ true)
+    (state : ℕ) (released : j.release ≡ released_by w.mode (task_at w.sheet j.task).jitter t (last_release j.task run.jobs) state) where
+  abbrev jitter : ℕ → ℕ
+  jitter o = (task_at w.sheet o).jitter
 
-  -- no job so far is released later
-  released_last : (k : ℕ) → k < length run.jobs → (job_at run k).release ≤ j.release
-  released_last k b = omega (arith, sound.prompt k b, sound.early k b)
+  -- the jobs of the task so far are released by t and its jitter
+  soon_before : last_release j.task run.jobs ≤ t + jitter j.task
+  soon_before = last_within j.task (t + jitter j.task) run (λ k b same. omega (arith, (sound.complies.valid.releases k b).timely.soon, sound.early k b, ap jitter same))
+
+  timely : IsTimely w.sheet j
+  timely = record {
+    after = omega (arith, at_t, released, release_after w.mode (jitter j.task) t (last_release j.task run.jobs) state);
+    soon = omega (arith, at_t, released, release_soon w.mode (jitter j.task) t (last_release j.task run.jobs) state soon_before);
+  }
+
+  -- no job of the task so far is released later
+  released_last : (k : ℕ) → k < length run.jobs → (job_at run k).task ≡ j.task → (job_at run k).release ≤ j.release
+  released_last k b same =
+      let last : (job_at run k).release ≤ released_by w.mode (jitter j.task) t (last_release j.task run.jobs) state =
+      subst (λ o. (job_at run k).release ≤ released_by w.mode (jitter o) t (last_release o run.jobs) state) same (sound.next k state b) in
+      omega (arith, last, released)
+
+  -- nor is one of its jobs that arrives after it
+  released_next : (other : ℕ) → j.release ≤ released_by w.mode (jitter j.task) t j.release other
+  released_next other =
+      subst (λ r. r ≤ released_by w.mode (jitter j.task) t r other) (sym released)
+      (release_again w.mode (jitter j.task) t (last_release j.task run.jobs) state other)
+
+  -- what is released no later than the next job of its task was, so far
+  next_more : (o r other : ℕ) → (j.task ≢ o → r ≤ released_by w.mode (jitter o) t (last_release o run.jobs) other) →
+      (o ≡ j.task → r ≤ j.release) → r ≤ released_by w.mode (jitter o) t (last_release o (with_job run j).jobs) other
+  unfolding with_job
+  next_more o r other old own = elim (cases_eq j.task o) [
+    | inr ne ↦
+        let same : last_release o (run.jobs ++ j ∷ []) ≡ last_release o run.jobs =
+        last_more o run.jobs j ∙ ap (λ (b : Bool). cond {A = ℕ} b j.release (last_release o run.jobs)) (ne_eqb j.task o ne) in
+        subst (λ last. r ≤ released_by w.mode (jitter o) t last other) (sym same) (old ne)
+    | inl e ↦
+        let now : last_release o (run.jobs ++ j ∷ []) ≡ j.release =
+        last_more o run.jobs j ∙ ap (λ (b : Bool). cond {A = ℕ} b j.release (last_release o run.jobs)) (eq-eqb j.task o e) in
+        let next : j.release ≤ released_by w.mode (jitter o) t j.release other =
+        subst (λ i. j.release ≤ released_by w.mode (jitter i) t j.release other) e (released_next other) in
+        subst (λ last. r ≤ released_by w.mode (jitter o) t last other) (sym now) (omega (arith, own (sym e), next))
+  ]
 
   -- what holds of the jobs so far, and of the new one
   each : (P : ℕ → Job → Type 0) → ((k : ℕ) → k < length run.jobs → P k (job_at run k)) → P (length run.jobs) j →
@@ -102,7 +141,9 @@ module _ (w : World) (laws : IsLawful w) (t : ℕ) (run : Run) (sound : IsSound 
   sound_job room = record {
     now = sound.now;
     early = each (λ k v. v.arrival ≤ t) sound.early (omega arith);
-    prompt = each (λ k v. v.release ≡ v.arrival) sound.prompt prompt;
+    next = λ k other b. each (λ i v. v.release ≤ released_by w.mode (jitter v.task) t (last_release v.task (with_job run j).jobs) other)
+        (λ i c. next_more (job_at run i).task (job_at run i).release other (λ ne. sound.next i other c) (released_last i c))
+        (next_more j.task j.release other (λ ne. absurd (ne refl)) (λ same. omega arith)) k b;
     complies = record {
       valid = record {
         jobs = λ k b. record {
@@ -115,7 +156,7 @@ module _ (w : World) (laws : IsLawful w) (t : ℕ) (run : Run) (sound : IsSound 
               (λ i b. each (λ m v. v.task ≡ (job_at run i).task → v.arrival < (job_at run i).arrival → v.release ≤ (job_at run i).release)
               (λ m c same less. (sound.complies.valid.releases i b).order m c same less)
               (λ same less. absurd (omega (arith, sound.early i b))) n c)
-              (each (λ m v. v.task ≡ j.task → v.arrival < j.arrival → v.release ≤ j.release) (λ m c same less. released_last m c) (λ same less. absurd (omega arith)) n c) k b;
+              (each (λ m v. v.task ≡ j.task → v.arrival < j.arrival → v.release ≤ j.release) (λ m c same less. released_last m c same) (λ same less. absurd (omega arith)) n c) k b;
         };
         ticks = λ u k h e. record {
           pending = still_pending k u (sound.complies.valid.ticks u k h e).pending;

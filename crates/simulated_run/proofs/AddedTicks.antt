@@ -15,10 +15,11 @@ use Rattle.run_model.proofs.PendingFacts.{pending_from, pending_to}
 use Rattle.run_model.proofs.ServiceFacts.{runs_tells, tick_cases}
 use Rattle.schedule_laws.specs.Compliance.{arrivals_of, can_cut, JobFits, IsReleased, MayRun, IsSupplied, IsWithinCurves}
 use Rattle.schedule_laws.proofs.PrefixFacts.{released_before, begun_where_uncut}
-use Rattle.simulated_run.specs.Laws.{IsPrompt}
+use Rattle.simulated_run.specs.Jobs.{released_by, last_release}
 use Rattle.simulated_run.specs.SimulatedRun.{World, with_tick, choice, chosen, inside_segment, most_urgent, may_be_off, comes_before}
 use Rattle.simulated_run.proofs.OrderFacts.{comes_itself, comes_chain, later_key, earlier_first}
 use Rattle.simulated_run.proofs.RunFacts.{ticks_more, tick_kept, tick_new, service_kept, service_new, window_kept, window_new}
+use Rattle.simulated_run.proofs.ReleaseFacts.{release_later}
 use Rattle.simulated_run.proofs.Soundness.{IsLawful, IsSound}
 
 -- what tick t may be, after the run before it
@@ -209,9 +210,15 @@ module _ (w : World) (laws : IsLawful w) (t : ℕ) (run : Run) (sound : IsSound 
     unfolding with_tick
     sound_early k b = omega (arith, sound.early k b)
 
-    sound_prompt : IsPrompt (with_tick run y)
+    sound_next : (k state : ℕ) → k < length (with_tick run y).jobs →
+        (job_at (with_tick run y) k).release ≤ released_by w.mode (task_at w.sheet (job_at (with_tick run y) k).task).jitter (suc t) (last_release (job_at (with_tick run y) k).task (with_tick run y).jobs) state
     unfolding with_tick
-    sound_prompt = sound.prompt
+    sound_next k state b =
+        omega (
+          arith,
+          sound.next k state b,
+          release_later w.mode (task_at w.sheet (job_at run k).task).jitter t (last_release (job_at run k).task run.jobs) state,
+        )
 
     sound_releases : (k : ℕ) → k < length (with_tick run y).jobs → IsReleased w.sheet (with_tick run y) k
     unfolding with_tick
@@ -266,7 +273,7 @@ module _ (w : World) (laws : IsLawful w) (t : ℕ) (run : Run) (sound : IsSound 
     sound_tick = record {
       now = omega (arith, ticks_more run y, sound.now);
       early = sound_early;
-      prompt = sound_prompt;
+      next = sound_next;
       complies = record {
         valid = record {
           jobs = sound_jobs;

@@ -7,7 +7,7 @@ use Rattle.task_sheet.specs.declared.tasks.Job.{Job}
 use Rattle.schedule_laws.specs.Compliance.{arrives_in, arrivals_of}
 use Rattle.simulated_run.specs.declared.mode.Mode.{Mode}
 use Rattle.simulated_run.specs.declared.mode.Mode.TheVariants.{Dense}
-use Rattle.simulated_run.specs.Jobs.{new_job}
+use Rattle.simulated_run.specs.Jobs.{new_job, last_release}
 use Rattle.simulated_run.specs.SimulatedRun.{World, Moment, arriving, after_arriving, room, add_job, add_jobs, arrive_of, arrive_below, moment_after, simulated_run}
 use Rattle.simulated_run.specs.Laws.{IsDense}
 use Rattle.simulated_run.proofs.AllowanceFacts.{allowance_tight}
@@ -24,7 +24,7 @@ module _ (w : World) where
   jobs_counted o t zero s m h = omega (arith, arrivals_le m.run o s t s (t + 1) (λ k b e. grind (arith, nat_tests)))
   jobs_counted o t (suc n) s m h =
       let p : Moment = add_jobs w o t n m in
-      let j : Job = new_job w.mode (task_at w.sheet o) o t p.state in
+      let j : Job = new_job w.mode (task_at w.sheet o) o t (last_release o p.run.jobs) p.state in
       omega (arith, jobs_counted o t n s m h, arrivals_more p.run j o s (t + 1), ap (λ (b : Bool). cond {A = ℕ} b 1 0) (counts o s t j refl refl h))
 
   dense_counted : (o t s : ℕ) (m : Moment) → w.mode ≡ Dense → s ≤ t → arrivals_of m.run o s t + room w o t m ≤ arrivals_of (arrive_of w o t m).run o s (t + 1)

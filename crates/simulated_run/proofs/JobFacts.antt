@@ -16,7 +16,7 @@ use Rattle.preemption.specs.Segments.{sum_more}
 use Rattle.simulated_run.specs.declared.mode.Mode.{Mode}
 use Rattle.simulated_run.specs.declared.mode.Mode.TheVariants.{Dense, Seed}
 use Rattle.simulated_run.specs.Words.{word, next}
-use Rattle.simulated_run.specs.Jobs.{drawn_segments, rest_segment, floating_segments, drawn_cost, cost_by, segments_by, new_job}
+use Rattle.simulated_run.specs.Jobs.{drawn_segments, rest_segment, floating_segments, drawn_cost, cost_by, segments_by, after_load, released_by, new_job}
 
 -- drawn segments: each within the task's
 
@@ -101,54 +101,54 @@ cost_fits (Seed seed) (Fixed segments) cost state h f = fixed_fits segments cost
 cost_fits (Seed seed) (Floating bound) cost state h f = drawn_fits cost state h
 
 -- a job with these numbers
-abbrev job_of : ℕ → ℕ → ℕ → List ℕ → Job
-job_of o t cost segments = record { task = o; arrival = t; release = t; cost = cost; segs = segments }
+abbrev job_of : ℕ → ℕ → ℕ → ℕ → List ℕ → Job
+job_of o t release cost segments = record { task = o; arrival = t; release = release; cost = cost; segs = segments }
 
-floats : (o t bound cost : ℕ) → 1 ≤ bound → segments_fit (Floating bound) (job_of o t cost (floating_segments bound cost)) ≡ true
-floats o t bound cost low = and_from _ _ (floating_within bound cost low) (eq-eqb _ _ (floating_sum bound cost low))
+floats : (o t r bound cost : ℕ) → 1 ≤ bound → segments_fit (Floating bound) (job_of o t r cost (floating_segments bound cost)) ≡ true
+floats o t r bound cost low = and_from _ _ (floating_within bound cost low) (eq-eqb _ _ (floating_sum bound cost low))
 
-segments_by_fit : (mode : Mode) (cut : Cut) (cost o t state : ℕ) → CutFits cost cut →
-    segments_fit cut (job_of o t (cost_by mode cut cost state) (segments_by mode cut (cost_by mode cut cost state) state)) ≡ true
-segments_by_fit Dense Full cost o t state f = refl
-segments_by_fit Dense Never cost o t state f = refl
-segments_by_fit Dense (Fixed segments) cost o t state f = and_from _ _ (each_itself segments) (eq-eqb _ _ f.1)
-segments_by_fit Dense (Floating bound) cost o t state f = floats o t bound cost f.0
-segments_by_fit (Seed seed) Full cost o t state f = refl
-segments_by_fit (Seed seed) Never cost o t state f = refl
-segments_by_fit (Seed seed) (Fixed segments) cost o t state f =
+segments_by_fit : (mode : Mode) (cut : Cut) (cost o t r state : ℕ) → CutFits cost cut →
+    segments_fit cut (job_of o t r (cost_by mode cut cost state) (segments_by mode cut (cost_by mode cut cost state) state)) ≡ true
+segments_by_fit Dense Full cost o t r state f = refl
+segments_by_fit Dense Never cost o t r state f = refl
+segments_by_fit Dense (Fixed segments) cost o t r state f = and_from _ _ (each_itself segments) (eq-eqb _ _ f.1)
+segments_by_fit Dense (Floating bound) cost o t r state f = floats o t r bound cost f.0
+segments_by_fit (Seed seed) Full cost o t r state f = refl
+segments_by_fit (Seed seed) Never cost o t r state f = refl
+segments_by_fit (Seed seed) (Fixed segments) cost o t r state f =
     let parts = and_parts (is_between 1 1000 (length segments)) (list_all is_in_range segments) f.0 in
     and_from _ _ (drawn_within segments state parts.1) (eq-eqb _ _ refl)
-segments_by_fit (Seed seed) (Floating bound) cost o t state f = floats o t bound (drawn_cost cost state) f.0
+segments_by_fit (Seed seed) (Floating bound) cost o t r state f = floats o t r bound (drawn_cost cost state) f.0
 
-module _ (mode : Mode) (task : Task) (ok : IsTask task) (o t state : ℕ) where
-  pub new_cost_low : 1 ≤ (new_job mode task o t state).cost
+module _ (mode : Mode) (task : Task) (ok : IsTask task) (o t last state : ℕ) where
+  pub new_cost_low : 1 ≤ (new_job mode task o t last state).cost
   unfolding new_job
   new_cost_low = (cost_fits mode task.cut task.cost state ok.cost_low ok.cut).low
 
-  pub new_cost_high : (new_job mode task o t state).cost ≤ task.cost
+  pub new_cost_high : (new_job mode task o t last state).cost ≤ task.cost
   unfolding new_job
   new_cost_high = (cost_fits mode task.cut task.cost state ok.cost_low ok.cut).high
 
-  pub new_task : (new_job mode task o t state).task ≡ o
+  pub new_task : (new_job mode task o t last state).task ≡ o
   unfolding new_job
   new_task = refl
 
-  pub new_arrival : (new_job mode task o t state).arrival ≡ t
+  pub new_arrival : (new_job mode task o t last state).arrival ≡ t
   unfolding new_job
   new_arrival = refl
 
-  pub new_release : (new_job mode task o t state).release ≡ t
+  pub new_release : (new_job mode task o t last state).release ≡ released_by mode task.jitter t last (after_load mode task state)
   unfolding new_job
   new_release = refl
 
   -- a new job fits by the task's own cut
-  pub new_fits : fits task (new_job mode task o t state) ≡ true
+  pub new_fits : fits task (new_job mode task o t last state) ≡ true
   unfolding new_job
   new_fits =
       and_from _ _
       (and_from _ _ (le-leb _ _ (cost_fits mode task.cut task.cost state ok.cost_low ok.cut).low) (le-leb _ _ (cost_fits mode task.cut task.cost state ok.cost_low ok.cut).high))
-      (segments_by_fit mode task.cut task.cost o t state ok.cut)
+      (segments_by_fit mode task.cut task.cost o t _ state ok.cut)
 
   -- and so by every kind of the table that serves the task
-  pub new_fits_by : (m : CutMeaning) → IsTabledCut m task → m.fits task (new_job mode task o t state) ≡ true
-  new_fits_by m tabled = tabled.same_fits (new_job mode task o t state) ∙ new_fits
+  pub new_fits_by : (m : CutMeaning) → IsTabledCut m task → m.fits task (new_job mode task o t last state) ≡ true
+  new_fits_by m tabled = tabled.same_fits (new_job mode task o t last state) ∙ new_fits

@@ -3,6 +3,7 @@ pub mod RunFacts
 pub mod JobFacts
 pub mod OrderFacts
 pub mod AllowanceFacts
+pub mod ReleaseFacts
 pub mod Soundness
 pub mod AddedJobs
 pub mod AddedTicks

@@ -14,9 +14,6 @@ use Rattle.simulated_run.specs.SimulatedRun.{with_job, with_tick}
 use Rattle.simulated_run.proofs.GrowthFacts.{length_more, BeginsWith}
 
 -- what counts, counts once
-pub at_most_one : (b : Bool) → cond {A = ℕ} b 1 0 ≤ 1
-at_most_one true = omega arith
-at_most_one false = omega arith
 
 count_push : {X : Type 0} (p : X → Bool) (xs : List X) (x : X) → count_by p (xs ++ x ∷ []) ≡ count_by p xs + cond (p x) 1 0
 count_push {X} p xs x =

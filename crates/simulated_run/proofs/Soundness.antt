@@ -7,7 +7,7 @@ use Rattle.preemption.specs.CutLaws.{IsLawfulCut, IsTabledCut}
 use Rattle.run_model.specs.declared.run.Run.{Run}
 use Rattle.run_model.specs.Runs.{job_at, service_of, IsDone}
 use Rattle.schedule_laws.specs.Compliance.{arrivals_of, can_cut, IsCompliant}
-use Rattle.simulated_run.specs.Laws.{IsPrompt}
+use Rattle.simulated_run.specs.Jobs.{released_by, last_release}
 use Rattle.simulated_run.specs.SimulatedRun.{World}
 
 -- the laws by which a simulated run complies
@@ -23,7 +23,9 @@ pub record IsLawful (w : World) : Type 0 where
 pub record IsSound (w : World) (t : ℕ) (run : Run) : Type 0 where
   pub now : length run.ticks ≡ t
   pub early : (k : ℕ) → k < length run.jobs → (job_at run k).arrival ≤ t
-  pub prompt : IsPrompt run
+  -- a job of the same task that arrives now is not released earlier
+  pub next : (k state : ℕ) → k < length run.jobs →
+      (job_at run k).release ≤ released_by w.mode (task_at w.sheet (job_at run k).task).jitter t (last_release (job_at run k).task run.jobs) state
   pub complies : IsCompliant w.policy w.cuts w.sbf w.sheet run
   -- where a job has run, the jobs of its task that arrived earlier are done
   pub ahead : (k n : ℕ) → k < length run.jobs → n < length run.jobs → 0 < service_of run k t →

@@ -4,6 +4,7 @@ use Rattle.std.specs.Prelude.{nat_le}
 use Rattle.std.proofs.lemmas.Bool.{cases_lt, cases_eq, and_parts, leb-true, le-leb}
 use Rattle.std.proofs.lemmas.Bool.Decides.{nat_tests}
 use Rattle.lists.proofs.SearchFacts.{greatest_passes}
+use Rattle.lists.proofs.SumFacts.{at_most_one}
 use Rattle.curve.specs.Curves.{alpha_of}
 use Rattle.curve.proofs.CurveFacts.{alpha_mono}
 use Rattle.lists.proofs.FirstFacts.{all_parts, all_from}
@@ -16,9 +17,9 @@ use Rattle.run_model.specs.Runs.{job_at}
 use Rattle.schedule_laws.specs.Compliance.{arrives_in, arrivals_of, IsCompliant}
 use Rattle.simulated_run.specs.declared.mode.Mode.{Mode}
 use Rattle.simulated_run.specs.declared.mode.Mode.TheVariants.{Dense, Seed}
-use Rattle.simulated_run.specs.Jobs.{new_job}
+use Rattle.simulated_run.specs.Jobs.{after_load, new_job, last_release}
 use Rattle.simulated_run.specs.SimulatedRun.{World, Moment, with_job, with_tick, admits, allowance_of, arriving, after_arriving, is_off, may_be_off, choice, room, add_job, add_jobs, arrive_of, arrive_below, add_tick, moment_after, simulated_run}
-use Rattle.simulated_run.proofs.RunFacts.{at_most_one, job_kept, job_new, jobs_more, arrivals_more, arrivals_le}
+use Rattle.simulated_run.proofs.RunFacts.{job_kept, job_new, jobs_more, arrivals_more, arrivals_le}
 use Rattle.simulated_run.proofs.JobFacts.{new_fits_by}
 use Rattle.simulated_run.proofs.Soundness.{IsLawful, IsSound, HasRoom}
 use Rattle.simulated_run.proofs.AddedJobs.{sound_job}
@@ -94,10 +95,11 @@ module _ (w : World) (laws : IsLawful w) where
   pub amid_job : (o t n : ℕ) (m : Moment) → o < length w.sheet.tasks → IsAmid w o t (suc n) m.run → IsAmid w o t n (add_job w o t m).run
   unfolding add_job new_job
   amid_job o t n m b amid =
-      let j : Job = new_job w.mode (task_at w.sheet o) o t m.state in
-      let fits : w.cuts.fits (task_at w.sheet o) j ≡ true = new_fits_by w.mode (task_at w.sheet o) (laws.sheet.each o b) o t m.state w.cuts (laws.tabled o b) in
+      let last : ℕ = last_release o m.run.jobs in
+      let j : Job = new_job w.mode (task_at w.sheet o) o t last m.state in
+      let fits : w.cuts.fits (task_at w.sheet o) j ≡ true = new_fits_by w.mode (task_at w.sheet o) (laws.sheet.each o b) o t last m.state w.cuts (laws.tabled o b) in
       record {
-        sound = sound_job w laws t m.run amid.sound j b refl refl fits (λ s h. omega (arith, amid.left s h));
+        sound = sound_job w laws t m.run amid.sound j b refl fits (after_load w.mode (task_at w.sheet o) m.state) refl (λ s h. omega (arith, amid.left s h));
         left = λ s h. omega (arith, amid.left s h, arrivals_more m.run j o s (suc t), at_most_one (arrives_in o s (suc t) j));
         fresh = fresh_job o t m.run j refl amid.fresh;
       }
@@ -149,7 +151,7 @@ module _ (w : World) (laws : IsLawful w) where
   nothing = record {
     now = refl;
     early = λ k b. absurd (omega arith);
-    prompt = λ k b. absurd (omega arith);
+    next = λ k state b. absurd (omega arith);
     complies = record {
       valid = record { jobs = λ k b. absurd (omega arith); releases = λ k b. absurd (omega arith); ticks = λ u k b. absurd (omega arith) };
       curves = λ o s u b h. omega arith;

@@ -1,5 +1,5 @@
 -- The jobs of a simulated run.
-use Rattle.std.specs.Prelude.{ℕ, ◌+◌, ◌/◌, ◌%◌, ◌==◌, List, [], ◌∷◌, ◌++◌, cond, length, replicate, sum}
+use Rattle.std.specs.Prelude.{ℕ, ◌+◌, ◌/◌, ◌%◌, ◌==◌, List, [], ◌∷◌, ◌++◌, cond, length, replicate, sum, max}
 use Rattle.task_sheet.specs.declared.tasks.Cut.{Cut}
 use Rattle.task_sheet.specs.declared.tasks.Cut.TheVariants.{Full, Never, Fixed, Floating}
 use Rattle.task_sheet.specs.declared.tasks.Task.{Task}
@@ -49,16 +49,38 @@ words_by (Seed seed) Never = 1
 words_by (Seed seed) (Fixed segments) = length segments
 words_by (Seed seed) (Floating bound) = 1
 
--- a new job of task o that arrives at t and is released at once
-unfoldable pub new_job : Mode → Task → ℕ → ℕ → ℕ → Job
-new_job mode task o t state = record {
+-- the state after the words of its cost and segments
+abbrev pub after_load : Mode → Task → ℕ → ℕ
+after_load mode task state = after (words_by mode task.cut) state
+
+-- when a job that arrives at t is released, whose task has this jitter and released its job before at `last`
+abbrev pub released_by : Mode → ℕ → ℕ → ℕ → ℕ → ℕ
+released_by Dense jitter t last state = max t jitter
+released_by (Seed seed) jitter t last state = cond (jitter == 0) t (max (t + word state % (jitter + 1)) last)
+
+-- the state after that
+abbrev pub after_release : Mode → ℕ → ℕ → ℕ
+after_release Dense jitter state = state
+after_release (Seed seed) jitter state = cond (jitter == 0) state (next state)
+
+-- a new job of task o that arrives at t, where the task's job before it was released at `last`
+unfoldable pub new_job : Mode → Task → ℕ → ℕ → ℕ → ℕ → Job
+new_job mode task o t last state = record {
   task = o;
   arrival = t;
-  release = t;
+  release = released_by mode task.jitter t last (after_load mode task state);
   cost = cost_by mode task.cut task.cost state;
   segs = segments_by mode task.cut (cost_by mode task.cut task.cost state) state;
 }
 
 -- the generator's state after its words
 abbrev pub after_job : Mode → Task → ℕ → ℕ
-after_job mode task state = after (words_by mode task.cut) state
+after_job mode task state = after_release mode task.jitter (after_load mode task state)
+
+-- the release of the last job of task o, and the one before where there is none
+abbrev pub last_release_from : ℕ → ℕ → List Job → ℕ
+last_release_from o before [] = before
+last_release_from o before (j ∷ jobs) = last_release_from o (cond (j.task == o) j.release before) jobs
+
+unfoldable pub last_release : ℕ → List Job → ℕ
+last_release o jobs = last_release_from o 0 jobs

@@ -1,5 +1,5 @@
 -- What a simulated run has.
-use Rattle.std.specs.Prelude.{◌≡◌, ℕ, ◌+◌, ◌-◌, ◌<◌, ◌≤◌, length}
+use Rattle.std.specs.Prelude.{ℕ, ◌+◌, ◌-◌, ◌<◌, ◌≤◌, length}
 use Rattle.curve.specs.Curves.{alpha_of}
 use Rattle.task_sheet.specs.SheetParts.{SheetParts}
 use Rattle.task_sheet.specs.Sheets.{task_at, IsValidSheet}
@@ -7,7 +7,6 @@ use Rattle.policy.specs.PolicyMeaning.{PolicyMeaning}
 use Rattle.preemption.specs.CutMeaning.{CutMeaning}
 use Rattle.preemption.specs.CutLaws.{Serves}
 use Rattle.run_model.specs.declared.run.Run.{Run}
-use Rattle.run_model.specs.Runs.{job_at}
 use Rattle.schedule_laws.specs.Compliance.{arrivals_of, IsCompliant}
 use Rattle.simulated_run.specs.declared.mode.Mode.{Mode}
 use Rattle.simulated_run.specs.declared.mode.Mode.TheVariants.{Dense}
@@ -17,10 +16,6 @@ use Rattle.simulated_run.specs.SimulatedRun.{world_of, simulated_run}
 abbrev pub SimulationComplies : PolicyMeaning → CutMeaning → (ℕ → ℕ) → Type 0
 SimulationComplies p m sbf =
     (sheet : SheetParts) → IsValidSheet sheet → Serves m sheet → (mode : Mode) (n : ℕ) → IsCompliant p m sbf sheet (simulated_run (world_of p m sbf sheet mode) n)
-
--- every job is released at its arrival
-abbrev pub IsPrompt : Run → Type 0
-IsPrompt run = (k : ℕ) → k < length run.jobs → (job_at run k).release ≡ (job_at run k).arrival
 
 -- with one more job of task o at t some window that ends with t has more arrivals than the curve says
 pub record IsFull (sheet : SheetParts) (run : Run) (o t : ℕ) : Type 0 where

@@ -18,7 +18,7 @@ use Rattle.schedule_laws.specs.Compliance.{arrivals_of, can_cut}
 use Rattle.simulated_run.specs.declared.mode.Mode.{Mode}
 use Rattle.simulated_run.specs.declared.mode.Mode.TheVariants.{Dense, Seed}
 use Rattle.simulated_run.specs.Words.{word, next}
-use Rattle.simulated_run.specs.Jobs.{new_job, after_job}
+use Rattle.simulated_run.specs.Jobs.{new_job, after_job, last_release}
 
 -- what a run is simulated for
 pub record World : Type 0 where
@@ -102,7 +102,7 @@ module _ (w : World) where
   -- one more job of task o arrives at t
   unfoldable pub add_job : ℕ → ℕ → Moment → Moment
   add_job o t m = record {
-    run = with_job m.run (new_job w.mode (task_at w.sheet o) o t m.state);
+    run = with_job m.run (new_job w.mode (task_at w.sheet o) o t (last_release o m.run.jobs) m.state);
     state = after_job w.mode (task_at w.sheet o) m.state;
   }
 

@@ -1,8 +1,11 @@
 -- The simulation, over one more job.
-use Rattle.std.proofs.Common.{◌≡◌, ℕ, suc, ◌+◌, ◌-◌, ◌<◌, ◌≤◌, true, List, [], ◌∷◌, ◌++◌, length, Option, Some, refl, sym, ◌∙◌, ap, subst, arith, get_or}
+use Rattle.std.proofs.Common.{◌≡◌, ℕ, suc, ◌+◌, ◌-◌, ◌<◌, ◌≤◌, Bool, true, cond, List, [], ◌∷◌, ◌++◌, length, Option, sym, ◌∙◌, ap, subst, inl, inr, arith, get_or}
 use Rattle.std.specs.Global.{Vec}
-use Rattle.std.specs.BTreeMap.{BTreeMap, Updates}
+use Rattle.std.specs.BTreeMap.{BTreeMap}
+use Rattle.std.specs.BTreeSet.{BTreeSet}
 use Rattle.std.proofs.Math.ListN.{set}
+use Rattle.std.proofs.lemmas.Bool.{cases_eq, eq-eqb, ne_eqb}
+use Rattle.std.proofs.lemmas.List.{get_or_read, get_or-set_same, get_or-set_other, length-set}
 use Rattle.lists.proofs.SearchFacts.{greatest_within}
 use Rattle.curve.specs.CurveValue.{Curve}
 use Rattle.curve.specs.Curves.{alpha_of}
@@ -20,9 +23,10 @@ use Rattle.run_model.specs.declared.run.Run.{Run}
 use Rattle.run_text.specs.Text.{segments_of}
 use Rattle.simulated_run.specs.declared.mode.Mode.{Mode}
 use Rattle.simulated_run.specs.Words.{after}
-use Rattle.simulated_run.specs.Jobs.{cost_by, segments_by, words_by, new_job}
+use Rattle.simulated_run.specs.Jobs.{cost_by, segments_by, words_by, after_load, released_by, after_release, new_job, after_job, last_release}
 use Rattle.simulated_run.specs.SimulatedRun.{World, Moment, moment_after, with_job, add_job, add_jobs, arrive_of, arrive_below, room, arriving, after_arriving}
 use Rattle.simulated_run.proofs.GrowthFacts.{jobs_in_turn, tasks_in_turn}
+use Rattle.simulated_run.proofs.ReleaseFacts.{last_more}
 use Rattle.simulated_run.proofs.JobFacts.{new_cost_low, new_cost_high, new_fits_by}
 use Rattle.simulated_run.proofs.Soundness.{IsLawful}
 use Rattle.simulated_run.proofs.Stages.{IsBetween, between}
@@ -32,79 +36,115 @@ use Rattle.windows.specs.Crowds.{AreArrivals}
 use Rattle.windows.specs.Supplied.{AreCounts, ArePromised}
 use Rattle.simulator.proofs.SameAnswers.{allowance_same, counts_job}
 use Rattle.simulator.specs.declared.simulation.Rank.{Rank}
+use Rattle.simulator.specs.declared.simulation.Due.{Due}
 use Rattle.simulator.specs.declared.refusal.SimRefusal.{SimRefusal}
 use Rattle.simulator.specs.declared.refusal.SimRefusal.TheVariants.{Jobs, Segments, Memory}
 use Rattle.simulator.specs.Simulations.{IsRefusal}
 use Rattle.simulator.specs.Loads.{IsLoadRefusal}
-use Rattle.simulator.specs.Ranks.{rank_at, rank_cmp}
-use Rattle.simulator.specs.SimulationState.{IsKeptBy, IsWithin, IsNew, IsKnown, HasArrivals, HasCuts, IsTabled, world_by}
+use Rattle.simulator.specs.Ranks.{rank_at}
+use Rattle.simulator.specs.SimulationState.{IsKeptBy, IsTakenUp, IsWithin, IsNew, IsKnown, HasArrivals, HasReleases, HasCuts, IsTabled, world_by}
 use Rattle.simulator.proofs.LimitFacts.{segments_more, too_many_jobs, too_many_segments, refusal_on}
 use Rattle.simulator.proofs.WindowFacts.{has_arrivals_more, past_is, promised_is}
 use Rattle.simulator.proofs.CutFacts.{new_floats}
 use Rattle.simulator.proofs.KeepFacts.{kept_job}
 
 -- the job that is made is the new job
-pub job_is : (mode : Mode) (task own : Task) (o t state cost : ℕ) (segs : List ℕ) → task ≡ own →
+pub job_is : (mode : Mode) (task own : Task) (o t last before state now cost release : ℕ) (segs : List ℕ) → task ≡ own →
     cost ≡ cost_by mode task.cut task.cost state →
-    segs ≡ segments_by mode task.cut (cost_by mode task.cut task.cost state) state
-    → (let j : Job = record { task = o; arrival = t; release = t; cost = cost; segs = segs } in j) ≡ new_job mode own o t state
+    segs ≡ segments_by mode task.cut (cost_by mode task.cut task.cost state) state → last ≡ before →
+    now ≡ after (words_by mode task.cut) state → release ≡ released_by mode task.jitter t before now
+    → (let j : Job = record { task = o; arrival = t; release = release; cost = cost; segs = segs } in j) ≡ new_job mode own o t last state
 unfolding new_job
-job_is mode task own o t state cost segs same e f = cc
+job_is mode task own o t last before state now cost release segs same e f was is g =
+    let own_cost : cost ≡ cost_by mode own.cut own.cost state = e ∙ ap (λ (v : Task). cost_by mode v.cut v.cost state) same in
+    let own_segs : segs ≡ segments_by mode own.cut (cost_by mode own.cut own.cost state) state =
+    f ∙ ap (λ (v : Task). segments_by mode v.cut (cost_by mode v.cut v.cost state) state) same in
+    let own_now : now ≡ after_load mode own state = is ∙ ap (λ (v : Task). after (words_by mode v.cut) state) same in
+    let own_release : release ≡ released_by mode own.jitter t last (after_load mode own state) =
+    g ∙ (ap (λ (v : Task). released_by mode v.jitter t before now) same
+    ∙ (ap (λ (v : ℕ). released_by mode own.jitter t v now) (sym was) ∙ ap (λ (v : ℕ). released_by mode own.jitter t last v) own_now)) in
+    cc
 
 -- a new job can be taken up
-pub new_is : (mode : Mode) (m : CutMeaning) (sheet : SheetParts) (o t state : ℕ) (jobs : List Job) →
+pub new_is : (mode : Mode) (m : CutMeaning) (sheet : SheetParts) (o t last state : ℕ) (jobs : List Job) →
     o < length sheet.tasks → IsTask (task_at sheet o) → IsLawfulCut m (task_at sheet o) →
     IsTabledCut m (task_at sheet o) → length jobs < 20000
-    → segments_of jobs + length (new_job mode (task_at sheet o) o t state).segs ≤ 1000000 → IsNew m sheet jobs (new_job mode (task_at sheet o) o t state)
+    → segments_of jobs + length (new_job mode (task_at sheet o) o t last state).segs ≤ 1000000 → IsNew m sheet jobs (new_job mode (task_at sheet o) o t last state)
 unfolding new_job
-new_is mode m sheet o t state jobs b ok law tabled few short =
-    let fits : m.fits (task_at sheet o) (new_job mode (task_at sheet o) o t state) ≡ true = new_fits_by mode (task_at sheet o) ok o t state m tabled in
+new_is mode m sheet o t last state jobs b ok law tabled few short =
+    let fits : m.fits (task_at sheet o) (new_job mode (task_at sheet o) o t last state) ≡ true = new_fits_by mode (task_at sheet o) ok o t last state m tabled in
     record {
       known =
           record {
             task = b;
             arrived = omega arith;
-            prompt = refl;
-            cost = omega (arith, new_cost_high mode (task_at sheet o) ok o t state, ok.cost_high);
+            cost = omega (arith, new_cost_high mode (task_at sheet o) ok o t last state, ok.cost_high);
             fits = fits;
-            floats = new_floats mode (task_at sheet o) o t state;
+            floats = new_floats mode (task_at sheet o) o t last state;
           };
-      positive = new_cost_low mode (task_at sheet o) ok o t state;
-      cut = law.cut_first (new_job mode (task_at sheet o) o t state) fits;
+      positive = new_cost_low mode (task_at sheet o) ok o t last state;
+      cut = law.cut_first (new_job mode (task_at sheet o) o t last state) fits;
       few_jobs = few;
       few_segments = short;
     }
 
-pub made_new : (mode : Mode) (m : CutMeaning) (sheet : SheetParts) (o t state : ℕ) (jobs : List Job) (job : Job) →
-    job ≡ new_job mode (task_at sheet o) o t state → o < length sheet.tasks → IsTask (task_at sheet o) →
+pub made_new : (mode : Mode) (m : CutMeaning) (sheet : SheetParts) (o t last state : ℕ) (jobs : List Job) (job : Job) →
+    job ≡ new_job mode (task_at sheet o) o t last state → o < length sheet.tasks → IsTask (task_at sheet o) →
     IsLawfulCut m (task_at sheet o) → IsTabledCut m (task_at sheet o) → length jobs < 20000
     → segments_of jobs + length job.segs ≤ 1000000 → IsNew m sheet jobs job
-made_new mode m sheet o t state jobs job e b ok law tabled few short =
-    subst (IsNew m sheet jobs) (sym e) (new_is mode m sheet o t state jobs b ok law tabled few (subst (λ (v : Job). segments_of jobs + length v.segs ≤ 1000000) e short))
+made_new mode m sheet o t last state jobs job e b ok law tabled few short =
+    subst (IsNew m sheet jobs) (sym e) (new_is mode m sheet o t last state jobs b ok law tabled few (subst (λ (v : Job). segments_of jobs + length v.segs ≤ 1000000) e short))
 
-module _ (p : PolicyMeaning) (m : CutMeaning) (sheet : SheetParts) (t : ℕ) (run : Run) (left : List ℕ) (queue : BTreeMap Rank ℕ)
-    (x : Option ℕ) (total : ℕ) (lists : List (Vec ℕ)) (sums : List ℕ)
-    (kept : IsKeptBy p m sheet t run left queue x total lists sums) where
+-- the last releases, with one job more
+releases_more : (n : ℕ) (run : Run) (releases : List ℕ) (j : Job) → HasReleases n run releases → j.task < n →
+    HasReleases n (with_job run j) (set releases j.task j.release)
+unfolding with_job
+releases_more n run releases j has b = record {
+  tasks = length-set releases j.task j.release ∙ has.tasks;
+  each = λ o h. elim (cases_eq j.task o) [
+    | inl e ↦
+        let now : last_release o (run.jobs ++ j ∷ []) ≡ j.release =
+        last_more o run.jobs j ∙ ap (λ (v : Bool). cond {A = ℕ} v j.release (last_release o run.jobs)) (eq-eqb j.task o e) in
+        subst (λ i. get_or (set releases j.task j.release) i 0 ≡ last_release o (run.jobs ++ j ∷ [])) e
+        (get_or-set_same releases j.task j.release 0 (omega (arith, has.tasks)) ∙ sym now)
+    | inr ne ↦
+        let same : last_release o (run.jobs ++ j ∷ []) ≡ last_release o run.jobs =
+        last_more o run.jobs j ∙ ap (λ (v : Bool). cond {A = ℕ} v j.release (last_release o run.jobs)) (ne_eqb j.task o ne) in
+        get_or-set_other releases j.task o j.release 0 (λ e. ne (sym e)) ∙ (has.each o h ∙ sym same)
+  ];
+}
+
+-- what the simulation has for the task
+pub last_is : (o n : ℕ) (run : Run) (releases : List ℕ) (x : ℕ) → HasReleases n run releases → o < n → x ≡ get_or releases o x →
+    last_release o run.jobs ≡ x
+last_is o n run releases x has b e = sym (has.each o b) ∙ sym (get_or_read releases o x (omega (arith, has.tasks)) e 0)
+
+module _ (p : PolicyMeaning) (m : CutMeaning) (sheet : SheetParts) (t : ℕ) (run : Run) (left : List ℕ) (queue : BTreeMap Rank ℕ) (coming : BTreeSet Due)
+    (x : Option ℕ) (total : ℕ) (lists : List (Vec ℕ)) (releases sums : List ℕ)
+    (kept : IsKeptBy p m sheet t (suc t) (suc t) run left queue coming x total lists releases sums) where
   -- the simulation after a new job
-  pub kept_with : (j : Job) (n : ℕ) (r : Rank) (after : BTreeMap Rank ℕ) (run' : Run) (left' : List ℕ) (total' : ℕ) (lists' : List (Vec ℕ)) (longer : Vec ℕ) →
+  pub kept_with : (j : Job) (n : ℕ) (r : Rank) (after : BTreeMap Rank ℕ) (then : BTreeSet Due) (run' : Run) (left' : List ℕ) (total' : ℕ) (lists' : List (Vec ℕ)) (longer : Vec ℕ) (releases' : List ℕ) →
       IsNew m sheet run.jobs j → j.arrival ≡ t → n ≡ length run.jobs → r ≡ rank_at p sheet j n →
-      Updates rank_cmp queue after r (Some n)
+      IsTakenUp t r (record { release = j.release; number = n }) queue after coming then
       → run' ≡ with_job run j → left' ≡ left ++ j.cost ∷ [] → total' ≡ total + length j.segs → lists' ≡ set lists j.task longer →
-      longer.items ≡ (get_or lists j.task longer).items ++ j.arrival ∷ [] → IsKeptBy p m sheet t run' left' after x total' lists'
-      sums
+      longer.items ≡ (get_or lists j.task longer).items ++ j.arrival ∷ [] → releases' ≡ set releases j.task j.release →
+      IsKeptBy p m sheet t (suc t) (suc t) run' left' after then x total' lists' releases' sums
   unfolding with_job
-  kept_with j n r after run' left' total' lists' longer new at_t len is_r up is_run is_left is_total is_lists is_longer =
+  kept_with j n r after then run' left' total' lists' longer releases' new at_t len is_r up is_run is_left is_total is_lists is_longer is_releases =
       let known : IsKnown m sheet t j = subst (λ i. IsKnown m sheet i j) at_t new.known in
-      let up' : Updates rank_cmp queue after (rank_at p sheet j n) (Some n) = subst (λ (q : Rank). Updates rank_cmp queue after q (Some n)) is_r up in
-      let done : IsKeptBy p m sheet t (with_job run j) (left ++ j.cost ∷ []) after x total' (set lists j.task longer) sums = record {
-        jobs = kept_job p m sheet t run left queue x kept.jobs after j n len known new.positive new.cut new.few_jobs new.few_segments up';
+      let up' : IsTakenUp t (rank_at p sheet j n) (record { release = j.release; number = n }) queue after coming then =
+      subst (λ (q : Rank). IsTakenUp t q (record { release = j.release; number = n }) queue after coming then) is_r up in
+      let done : IsKeptBy p m sheet t (suc t) (suc t) (with_job run j) (left ++ j.cost ∷ []) after then x total' (set lists j.task longer) (set releases j.task j.release) sums = record {
+        jobs = kept_job p m sheet t run left queue coming x kept.jobs after then j n len known new.positive new.cut new.few_jobs new.few_segments up';
         segments = omega (arith, is_total, kept.segments, segments_more run.jobs j);
         arrivals = has_arrivals_more (length sheet.tasks) run lists j longer kept.arrivals new.known.task (λ k b. omega (arith, (kept.jobs.known k b).arrived)) is_longer;
+        releases = releases_more (length sheet.tasks) run releases j kept.releases new.known.task;
         counts = counts_job run j sums t kept.counts;
       } in
-      subst (λ (v : Run). IsKeptBy p m sheet t v left' after x total' lists' sums) (sym is_run)
-      (subst (λ (v : List ℕ). IsKeptBy p m sheet t (with_job run j) v after x total' lists' sums) (sym is_left)
-      (subst (λ (v : List (Vec ℕ)). IsKeptBy p m sheet t (with_job run j) (left ++ j.cost ∷ []) after x total' v sums) (sym is_lists) done))
+      subst (λ (v : Run). IsKeptBy p m sheet t (suc t) (suc t) v left' after then x total' lists' releases' sums) (sym is_run)
+      (subst (λ (v : List ℕ). IsKeptBy p m sheet t (suc t) (suc t) (with_job run j) v after then x total' lists' releases' sums) (sym is_left)
+      (subst (λ (v : List (Vec ℕ)). IsKeptBy p m sheet t (suc t) (suc t) (with_job run j) (left ++ j.cost ∷ []) after then x total' v releases' sums) (sym is_lists)
+      (subst (λ (v : List ℕ). IsKeptBy p m sheet t (suc t) (suc t) (with_job run j) (left ++ j.cost ∷ []) after then x total' (set lists j.task longer) v sums) (sym is_releases) done)))
 
 -- the run after one more job
 pub with_job_is : (run : Run) (jobs : List Job) (j : Job) → jobs ≡ run.jobs ++ j ∷ [] →
@@ -113,11 +153,17 @@ unfolding with_job
 with_job_is run jobs j e = ap (λ (l : List Job). (let r : Run = record { jobs = l; ticks = run.ticks } in r)) e
 
 pub added : (w : World) (o t : ℕ) (m : Moment) (job : Job) (run : Run) (state : ℕ) →
-    job ≡ new_job w.mode (task_at w.sheet o) o t m.state → run ≡ with_job m.run job →
-    state ≡ after (words_by w.mode (task_at w.sheet o).cut) m.state
+    job ≡ new_job w.mode (task_at w.sheet o) o t (last_release o m.run.jobs) m.state → run ≡ with_job m.run job →
+    state ≡ after_job w.mode (task_at w.sheet o) m.state
     → (let r : Moment = record { run = run; state = state } in r) ≡ add_job w o t m
 unfolding add_job
 added w o t m job run state e f g = cc
+
+-- the generator's state after the words of a new job
+pub state_is : (mode : Mode) (task own : Task) (state now then : ℕ) → task ≡ own → now ≡ after (words_by mode task.cut) state →
+    then ≡ after_release mode task.jitter now → then ≡ after_job mode own state
+state_is mode task own state now then same e f =
+    f ∙ (ap (after_release mode task.jitter) e ∙ ap (λ (v : Task). after_release mode v.jitter (after (words_by mode v.cut) state)) same)
 
 -- refusals of one more job
 
@@ -127,7 +173,7 @@ module _ (w : World) (o t : ℕ) (m : Moment) (within : IsWithin m.run.jobs) whe
   refuses_jobs h = too_many_jobs m.run.jobs _ within h
 
   refuses_by : (spare : ℕ) (e : SimRefusal) → length m.run.jobs < 20000 → spare ≡ 1000000 - segments_of m.run.jobs →
-      IsLoadRefusal spare (new_job w.mode (task_at w.sheet o) o t m.state).segs e →
+      IsLoadRefusal spare (new_job w.mode (task_at w.sheet o) o t (last_release o m.run.jobs) m.state).segs e →
       IsRefusal (add_job w o t m).run.jobs e
   unfolding add_job with_job
   refuses_by spare Jobs few s h = absurd h

@@ -61,17 +61,17 @@ floating_cuttable m task j bound s ok tabled is floats =
     floating_cut bound j.cost s low
     ∙ (ap (λ (l : List ℕ). is_prefix_sum l s || leb j.cost s) (sym segs) ∙ (ap (λ (c : Cut). cuttable_by c j s) (sym is) ∙ sym (tabled.same_cuts j s)))
 
-floats_by : (mode : Mode) (cut : Cut) (o t cost state : ℕ) →
-    FloatsBy cut (record { task = o; arrival = t; release = t; cost = cost_by mode cut cost state; segs = segments_by mode cut (cost_by mode cut cost state) state })
-floats_by mode Full o t cost state = tt
-floats_by mode Never o t cost state = tt
-floats_by mode (Fixed segments) o t cost state = tt
-floats_by Dense (Floating bound) o t cost state = refl
-floats_by (Seed seed) (Floating bound) o t cost state = refl
+floats_by : (mode : Mode) (cut : Cut) (o t r cost state : ℕ) →
+    FloatsBy cut (record { task = o; arrival = t; release = r; cost = cost_by mode cut cost state; segs = segments_by mode cut (cost_by mode cut cost state) state })
+floats_by mode Full o t r cost state = tt
+floats_by mode Never o t r cost state = tt
+floats_by mode (Fixed segments) o t r cost state = tt
+floats_by Dense (Floating bound) o t r cost state = refl
+floats_by (Seed seed) (Floating bound) o t r cost state = refl
 
-pub new_floats : (mode : Mode) (task : Task) (o t state : ℕ) → FloatsBy task.cut (new_job mode task o t state)
+pub new_floats : (mode : Mode) (task : Task) (o t last state : ℕ) → FloatsBy task.cut (new_job mode task o t last state)
 unfolding new_job
-new_floats mode task o t state = floats_by mode task.cut o t task.cost state
+new_floats mode task o t last state = floats_by mode task.cut o t _ task.cost state
 
 -- either way
 

@@ -1,8 +1,9 @@
 -- A run that the simulation has made can be written.
-use Rattle.std.proofs.Common.{◌≡◌, ℕ, zero, suc, ◌<◌, ◌≤◌, ◌==◌, true, List, [], ◌∷◌, length, get_or, sum, All, refl, sym, ◌∙◌, arith}
+use Rattle.std.proofs.Common.{◌≡◌, ℕ, zero, suc, ◌+◌, ◌<◌, ◌≤◌, ◌==◌, true, List, [], ◌∷◌, length, get_or, sum, All, refl, sym, ◌∙◌, arith}
 use Rattle.std.proofs.lemmas.Bool.{and_parts, eqb-true}
 use Rattle.std.proofs.lemmas.List.Elements.{All-from_get_or}
 use Rattle.lists.specs.Ranges.{is_between}
+use Rattle.task_sheet.specs.Limits.{jitter_high}
 use Rattle.task_sheet.specs.Sheets.{task_at, IsValidSheet}
 use Rattle.task_sheet.specs.SheetParts.{SheetParts}
 use Rattle.task_sheet.specs.declared.tasks.Cut.{Cut}
@@ -17,10 +18,13 @@ use Rattle.run_model.specs.declared.run.Run.{Run}
 use Rattle.run_model.specs.declared.run.Tick.{Tick}
 use Rattle.run_model.specs.declared.run.Tick.TheVariants.{Off, Idle, Runs}
 use Rattle.run_model.specs.Runs.{no_job, job_at, tick_at}
+use Rattle.schedule_laws.specs.Compliance.{IsReleased}
 use Rattle.run_text.specs.Text.{IsSegment, IsJob, IsTickOf, IsWithinLimits}
 use Rattle.std.specs.BTreeMap.{BTreeMap}
+use Rattle.std.specs.BTreeSet.{BTreeSet}
 use Rattle.std.proofs.Common.{Option}
 use Rattle.simulator.specs.declared.simulation.Rank.{Rank}
+use Rattle.simulator.specs.declared.simulation.Due.{Due}
 use Rattle.simulator.specs.SimulationState.{IsKeptAt, IsKnown}
 
 -- each of some numbers is at most their sum
@@ -49,11 +53,12 @@ tick_of n Idle h = tt
 tick_of n (Runs k) h = h k refl
 
 known_job : (m : CutMeaning) (sheet : SheetParts) (t : ℕ) (j : Job) → IsValidSheet sheet →
-    ((o : ℕ) → o < length sheet.tasks → IsTabledCut m (task_at sheet o)) → t ≤ 100000 → IsKnown m sheet t j → IsJob j
-known_job m sheet t j valid tabled h known = record {
+    ((o : ℕ) → o < length sheet.tasks → IsTabledCut m (task_at sheet o)) → t ≤ 100000 → IsKnown m sheet t j →
+    j.release ≤ j.arrival + (task_at sheet j.task).jitter → IsJob j
+known_job m sheet t j valid tabled h known soon = record {
   task = omega (arith, known.task, valid.few);
   arrival = omega (arith, known.arrived);
-  released = known.prompt;
+  release = omega (arith, known.arrived, soon, jitter_high (task_at sheet j.task) (valid.each j.task known.task));
   cost = known.cost;
   segs =
       cut_segments (task_at sheet j.task).cut j
@@ -61,13 +66,14 @@ known_job m sheet t j valid tabled h known = record {
       known.cost;
 }
 
-pub kept_within : (p : PolicyMeaning) (m : CutMeaning) (sheet : SheetParts) (t : ℕ) (run : Run) (left : List ℕ) (queue : BTreeMap Rank ℕ) (x : Option ℕ) →
-    IsKeptAt p m sheet t run left queue x → IsValidSheet sheet →
-    ((o : ℕ) → o < length sheet.tasks → IsTabledCut m (task_at sheet o)) → t ≤ 100000 → IsWithinLimits run
-kept_within p m sheet t run left queue x kept valid tabled h = record {
+pub kept_within : (p : PolicyMeaning) (m : CutMeaning) (sheet : SheetParts) (t u v : ℕ) (run : Run) (left : List ℕ) (queue : BTreeMap Rank ℕ) (coming : BTreeSet Due) (x : Option ℕ) →
+    IsKeptAt p m sheet t u v run left queue coming x → IsValidSheet sheet →
+    ((o : ℕ) → o < length sheet.tasks → IsTabledCut m (task_at sheet o)) → t ≤ 100000 →
+    ((k : ℕ) → k < length run.jobs → IsReleased sheet run k) → IsWithinLimits run
+kept_within p m sheet t u v run left queue coming x kept valid tabled h released = record {
   few_jobs = kept.within.few_jobs;
   few_ticks = omega (arith, kept.now);
   few_segments = kept.within.few_segments;
-  jobs = All-from_get_or IsJob run.jobs no_job (λ k b. known_job m sheet t (job_at run k) valid tabled h (kept.known k b));
+  jobs = All-from_get_or IsJob run.jobs no_job (λ k b. known_job m sheet t (job_at run k) valid tabled h (kept.known k b) (released k b).timely.soon);
   ticks = All-from_get_or (IsTickOf (length run.jobs)) run.ticks Off (λ u b. tick_of (length run.jobs) (tick_at run u) (λ k e. kept.listed u k (omega (arith, kept.now)) e));
 }

@@ -1,23 +1,28 @@
 -- The simulation as a whole.
-use Rattle.std.proofs.Common.{◌≡◌, ℕ, suc, ◌<◌, List, [], ◌∷◌, length, get_or, Some, None, Ok, Err, refl, sym, ◌∙◌, ap, subst, arith}
+use Rattle.std.proofs.Common.{◌≡◌, ℕ, suc, ◌<◌, List, [], ◌∷◌, false, length, replicate, get_or, Some, None, Ok, Err, refl, sym, ◌∙◌, ap, subst, arith}
 use Rattle.std.specs.Global.{Vec}
 use Rattle.std.specs.BTreeMap.{BTreeMap, get}
+use Rattle.std.specs.BTreeSet.{BTreeSet, contains}
+use Rattle.std.specs.List.{list_any}
 use Rattle.std.specs.Map.{lookup}
+use Rattle.std.proofs.lemmas.List.{length-replicate, get_or-replicate}
 use Rattle.task_sheet.specs.SheetParts.{SheetParts}
 use Rattle.task_sheet.specs.declared.tasks.Job.{Job}
 use Rattle.policy.specs.PolicyMeaning.{PolicyMeaning}
 use Rattle.preemption.specs.CutMeaning.{CutMeaning}
 use Rattle.run_model.specs.declared.run.Run.{Run}
 use Rattle.run_model.specs.declared.run.Tick.{Tick}
+use Rattle.simulated_run.specs.Jobs.{last_release}
 use Rattle.simulated_run.specs.SimulatedRun.{World, Moment, seed_of, moment_after, simulated_run, arrive_below}
 use Rattle.simulated_run.proofs.GrowthFacts.{begins_trans, moment_extends, moments_in_turn}
 use Rattle.windows.proofs.TickCounts.{counts_start}
 use Rattle.simulator.specs.declared.simulation.Rank.{Rank}
+use Rattle.simulator.specs.declared.simulation.Due.{Due}
 use Rattle.simulator.specs.declared.refusal.SimRefusal.{SimRefusal}
 use Rattle.simulator.specs.declared.refusal.SimRefusal.TheVariants.{Jobs, Segments, Memory}
 use Rattle.simulator.specs.Simulations.{refused_by, simulation_of, IsSimulation, IsRefusal}
-use Rattle.simulator.specs.Ranks.{rank_cmp}
-use Rattle.simulator.specs.SimulationState.{IsKeptAt, IsKeptBy, IsQueue}
+use Rattle.simulator.specs.Ranks.{rank_cmp, due_cmp}
+use Rattle.simulator.specs.SimulationState.{IsKeptAt, IsKeptBy, IsQueue, HasReleases}
 use Rattle.simulator.proofs.LimitFacts.{none_within, refusal_on}
 use Rattle.simulator.proofs.WindowFacts.{has_no_arrivals}
 
@@ -26,35 +31,44 @@ use Rattle.simulator.proofs.WindowFacts.{has_no_arrivals}
 abbrev pub no_run : Run
 no_run = record { jobs = []; ticks = [] }
 
-empty_queue : (p : PolicyMeaning) (sheet : SheetParts) (queue : BTreeMap Rank ℕ) → queue.entries ≡ [] → IsQueue p sheet [] [] queue
-empty_queue p sheet queue e = record {
+empty_queue : (p : PolicyMeaning) (sheet : SheetParts) (queue : BTreeMap Rank ℕ) (coming : BTreeSet Due) → queue.entries ≡ [] → coming.keys ≡ [] →
+    IsQueue p sheet [] [] 0 0 queue coming
+empty_queue p sheet queue coming e f = record {
   sound = λ q k h. absurd (let none : get rank_cmp queue q ≡ None = ap (lookup _) e in cc);
+  due = λ d h. absurd (let none : contains due_cmp coming d ≡ false = ap (list_any _) f in cc);
   complete = λ k h. absurd (omega arith);
 }
 
-pub kept_first : (p : PolicyMeaning) (m : CutMeaning) (sheet : SheetParts) (run : Run) (left : List ℕ) (queue : BTreeMap Rank ℕ) (lists : List (Vec ℕ)) (sums : List ℕ) →
-    run ≡ no_run → left ≡ [] → queue.entries ≡ [] → length lists ≡ length sheet.tasks
-    → ((o : ℕ) (d : Vec ℕ) → o < length sheet.tasks → (get_or lists o d).items ≡ []) → sums ≡ 0 ∷ [] → IsKeptBy p m sheet 0 run left queue None 0 lists sums
-kept_first p m sheet run left queue lists sums is_run is_left is_queue len none is_sums =
-    let jobs : IsKeptAt p m sheet 0 no_run [] queue None = record {
+no_releases : (n : ℕ) (releases : List ℕ) → releases ≡ replicate n 0 → HasReleases n no_run releases
+unfolding last_release
+no_releases n releases e = record { tasks = ap length e ∙ length-replicate n 0; each = λ o b. ap (λ (l : List ℕ). get_or l o 0) e ∙ get_or-replicate n o 0 0 b }
+
+pub kept_first : (p : PolicyMeaning) (m : CutMeaning) (sheet : SheetParts) (run : Run) (left : List ℕ) (queue : BTreeMap Rank ℕ) (coming : BTreeSet Due) (lists : List (Vec ℕ)) (releases sums : List ℕ) →
+    run ≡ no_run → left ≡ [] → queue.entries ≡ [] → coming.keys ≡ [] → length lists ≡ length sheet.tasks
+    → ((o : ℕ) (d : Vec ℕ) → o < length sheet.tasks → (get_or lists o d).items ≡ []) → releases ≡ replicate (length sheet.tasks) 0 →
+    sums ≡ 0 ∷ [] → IsKeptBy p m sheet 0 0 0 run left queue coming None 0 lists releases sums
+kept_first p m sheet run left queue coming lists releases sums is_run is_left is_queue is_coming len none is_releases is_sums =
+    let jobs : IsKeptAt p m sheet 0 0 0 no_run [] queue coming None = record {
       now = refl;
       known = λ k h. absurd (omega arith);
       listed = λ u k h. absurd (omega arith);
       lefts = refl;
       amounts = λ k h. absurd (omega arith);
-      waiting = empty_queue p sheet queue is_queue;
+      waiting = empty_queue p sheet queue coming is_queue is_coming;
       segment = λ k h. absurd (omega arith);
+      begun = λ k e. absurd (cc);
       within = none_within;
     } in
-    let done : IsKeptBy p m sheet 0 no_run [] queue None 0 lists (0 ∷ []) = record {
+    let done : IsKeptBy p m sheet 0 0 0 no_run [] queue coming None 0 lists releases (0 ∷ []) = record {
       jobs = jobs;
       segments = refl;
       arrivals = has_no_arrivals (length sheet.tasks) lists len none;
+      releases = no_releases (length sheet.tasks) releases is_releases;
       counts = counts_start no_run (0 ∷ []) refl;
     } in
-    subst (λ (v : Run). IsKeptBy p m sheet 0 v left queue None 0 lists sums) (sym is_run)
-    (subst (λ (v : List ℕ). IsKeptBy p m sheet 0 no_run v queue None 0 lists sums) (sym is_left)
-    (subst (λ (v : List ℕ). IsKeptBy p m sheet 0 no_run [] queue None 0 lists v) (sym is_sums) done))
+    subst (λ (v : Run). IsKeptBy p m sheet 0 0 0 v left queue coming None 0 lists releases sums) (sym is_run)
+    (subst (λ (v : List ℕ). IsKeptBy p m sheet 0 0 0 no_run v queue coming None 0 lists releases sums) (sym is_left)
+    (subst (λ (v : List ℕ). IsKeptBy p m sheet 0 0 0 no_run [] queue coming None 0 lists releases v) (sym is_sums) done))
 
 -- the run, or its refusal
 

@@ -1,5 +1,5 @@
 -- What may arrive, and whether a tick may be off, from what the simulation keeps.
-use Rattle.std.proofs.Common.{◌≡◌, ◌≢◌, ℕ, zero, suc, ◌+◌, ◌-◌, ◌<◌, ◌≤◌, Bool, true, false, cond, List, [], ◌∷◌, ◌++◌, length, get_or, take, add-zero, add-suc, add-one, refl, sym, ◌∙◌, ap, subst, inl, inr, arith}
+use Rattle.std.proofs.Common.{◌≡◌, ◌≢◌, ℕ, suc, ◌+◌, ◌-◌, ◌<◌, ◌≤◌, cond, List, [], ◌∷◌, ◌++◌, length, get_or, take, add-one, refl, sym, ◌∙◌, ap, subst, inl, inr, arith}
 use Rattle.std.specs.Global.{Vec}
 use Rattle.std.proofs.Math.ListN.{set}
 use Rattle.std.proofs.lemmas.Bool.{cases_eq}
@@ -10,8 +10,8 @@ use Rattle.task_sheet.specs.Sheets.{task_at}
 use Rattle.task_sheet.specs.declared.tasks.Job.{Job}
 use Rattle.run_model.specs.declared.run.Run.{Run}
 use Rattle.run_model.specs.declared.run.Tick.{Tick}
-use Rattle.run_model.specs.Runs.{job_at, is_on, ticks_in, tick_at}
-use Rattle.run_model.proofs.ServiceFacts.{ticks_in_none, ticks_in_more}
+use Rattle.run_model.specs.Runs.{job_at, is_on, ticks_in}
+use Rattle.run_model.proofs.ServiceFacts.{ticks_in_split}
 use Rattle.simulated_run.specs.SimulatedRun.{World, with_job, with_tick}
 use Rattle.simulated_run.proofs.Soundness.{IsSound}
 use Rattle.simulated_run.proofs.Stages.{IsBetween}
@@ -20,7 +20,6 @@ use Rattle.windows.specs.Arrivals.{IsPast}
 use Rattle.windows.specs.Crowds.{AreArrivals}
 use Rattle.windows.specs.Supplied.{AreCounts, ArePromised}
 use Rattle.windows.proofs.CrowdFacts.{arrival_job}
-use Rattle.windows.proofs.TickCounts.{ticks_in_split}
 use Rattle.simulator.proofs.SameAnswers.{lists_none, lists_tick, lists_own, lists_other, counts_tick}
 use Rattle.simulator.specs.SimulationState.{HasArrivals}
 

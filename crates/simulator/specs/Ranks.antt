@@ -1,4 +1,4 @@
--- Ranks of jobs, the keys of the code's queue. Nothing here is to be believed.
+-- Ranks and releases of jobs, the keys of the code's queue and of its jobs to come. Nothing here is to be believed.
 use Rattle.std.specs.Prelude.{ℕ, List, slice_index_or}
 use Rattle.std.specs.declared.cmp.Ordering.{Ordering}
 use Rattle.std.specs.Ordering.{nat_cmp, int_cmp, ordering_then}
@@ -7,6 +7,7 @@ use Rattle.task_sheet.specs.declared.tasks.Job.{Job}
 use Rattle.policy.specs.PolicyMeaning.{PolicyMeaning}
 use Rattle.run_model.specs.Runs.{no_job}
 use Rattle.simulator.specs.declared.simulation.Rank.{Rank}
+use Rattle.simulator.specs.declared.simulation.Due.{Due}
 
 -- the rank of a job with this number
 abbrev pub rank_at : PolicyMeaning → SheetParts → Job → ℕ → Rank
@@ -19,3 +20,11 @@ rank_of p sheet jobs k = rank_at p sheet (slice_index_or jobs k no_job) k
 -- the order of ranks: by the key, then by the task, the arrival and the number
 abbrev pub rank_cmp : Rank → Rank → Ordering
 rank_cmp a b = ordering_then (int_cmp a.high b.high) (ordering_then (int_cmp a.low b.low) (ordering_then (nat_cmp a.task b.task) (ordering_then (nat_cmp a.arrival b.arrival) (nat_cmp a.number b.number))))
+
+-- when job k is released, as an entry of the jobs to come
+abbrev pub due_of : List Job → ℕ → Due
+due_of jobs k = record { release = (slice_index_or jobs k no_job).release; number = k }
+
+-- their order: by the release, then by the number
+abbrev pub due_cmp : Due → Due → Ordering
+due_cmp a b = ordering_then (nat_cmp a.release b.release) (nat_cmp a.number b.number)

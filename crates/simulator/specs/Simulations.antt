@@ -1,5 +1,6 @@
 -- What a simulation gives: the simulated run, or the limit that its jobs pass.
 use Rattle.std.specs.Prelude.{◌≡◌, ℕ, ◌+◌, List, length, take, nat_le, nat_lt, Option, Some, None, Result, Ok, Err}
+use Rattle.lists.specs.Limits.{most_jobs, most_segments}
 use Rattle.lists.specs.Firsts.{first_of, must, first_below}
 use Rattle.task_sheet.specs.declared.tasks.Job.{Job}
 use Rattle.run_model.specs.declared.run.Run.{Run}
@@ -10,7 +11,7 @@ use Rattle.simulator.specs.declared.refusal.SimRefusal.TheVariants.{Jobs, Segmen
 
 -- the limit that job k passes, after the jobs before it
 abbrev pub passed_at : List Job → ℕ → Option SimRefusal
-passed_at jobs k = first_of (must (nat_lt k 20000) Jobs) (must (nat_le (segments_of (take (k + 1) jobs)) 1000000) Segments)
+passed_at jobs k = first_of (must (nat_lt k most_jobs) Jobs) (must (nat_le (segments_of (take (k + 1) jobs)) most_segments) Segments)
 
 -- the limit that the first of the jobs to pass one passes
 unfoldable pub refused_by : List Job → Option SimRefusal

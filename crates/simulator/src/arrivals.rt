@@ -1,28 +1,43 @@
 //! The jobs that arrive at a tick.
 ghost use Rattle.std.specs.Prelude.{◌≡◌, ◌≤◌, ◌<◌, ◌+◌, length, OnOk, IfErr};
+ghost use Rattle.lists.specs.Limits.{most_ticks};
 ghost use Rattle.task_sheet.specs.Sheets.{task_at};
 ghost use Rattle.preemption.specs.CutLaws.{Serves};
 ghost use Rattle.simulated_run.specs.SimulatedRun.{with_job, add_job as add_job_by, add_jobs as add_jobs_by, arrive_of as arrive_of_by, moment_after};
 ghost use Rattle.simulator.specs.Simulations.{IsRefusal};
-ghost use Rattle.simulator.specs.SimulationState.{IsKept, IsNew, world_by, run_of, moment_of, moment_with};
+ghost use Rattle.simulator.specs.SimulationState.{IsReady, IsTakenUp, IsNew, world_by, run_of, moment_of, moment_with};
 
 use crate::loads::draw_load;
 use crate::refusal::SimRefusal;
-use crate::simulation::{Simulation, rank_of};
-use crate::words::draw_count;
+use crate::simulation::{Due, Rank, Simulation, rank_of};
+use crate::words::{draw_count, draw_release};
 use lists::Items;
+use lists::limits::{MOST_JOBS, MOST_SEGMENTS};
 use policy::Policy;
 use preemption::{Preemption, Tabled};
 use simulated_run::Mode;
 use std::alloc::{AllocError, Global};
+use std::collections::{BTreeMap, BTreeSet};
 use task_sheet::{Job, Sheet};
 use windows::allowance;
 
-/// The most jobs of a run.
-const MOST_JOBS: usize = 20_000;
-
-/// The most segments of a run's jobs.
-const MOST_SEGMENTS: usize = 1_000_000;
+/// Puts a new job into the queue where it is released by `t`, else among those to come.
+fn take_up(
+    queue: &mut BTreeMap<Rank, u32>,
+    coming: &mut BTreeSet<Due>,
+    rank: Rank,
+    due: Due,
+    t: u64,
+) -> Result<(), AllocError>
+    ensures { OnOk result (IsTakenUp t rank due queue.old queue.new coming.old coming.new) }
+{
+    if due.release <= t {
+        queue.insert(rank, due.number)?;
+    } else {
+        coming.insert(due)?;
+    }
+    Ok(())
+}
 
 /// Takes up a job that has just arrived.
 fn keep_job<P: Policy, M: Preemption>(
@@ -30,20 +45,31 @@ fn keep_job<P: Policy, M: Preemption>(
     simulation: &mut Simulation,
     job: Job,
 ) -> Result<(), AllocError>
-    requires time { job.arrival ≤ 100000 }
+    requires time { job.arrival ≤ most_ticks }
     requires new { IsNew M.cuts sheet.now simulation.old.jobs.items job }
-    requires kept { IsKept P.meaning M.cuts sheet.now job.arrival simulation.old }
+    requires kept { IsReady P.meaning M.cuts sheet.now job.arrival simulation.old }
     ensures run { OnOk result (run_of simulation.new ≡ with_job (run_of simulation.old) job) }
     ensures words { simulation.new.words ≡ simulation.old.words }
-    ensures kept { OnOk result (IsKept P.meaning M.cuts sheet.now job.arrival simulation.new) }
+    ensures kept { OnOk result (IsReady P.meaning M.cuts sheet.now job.arrival simulation.new) }
 {
     let number = simulation.jobs.len() as u32;
     let rank = rank_of::<P>(sheet, &job, number);
     simulation.segments += job.segs.len();
     let list = &mut simulation.arrivals[job.task as usize];
     list.push(job.arrival)?;
+    simulation.releases[job.task as usize] = job.release;
     simulation.left.push(job.cost)?;
-    simulation.queue.insert(rank, number)?;
+    let due = Due {
+        release: job.release,
+        number,
+    };
+    take_up(
+        &mut simulation.queue,
+        &mut simulation.coming,
+        rank,
+        due,
+        job.arrival,
+    )?;
     simulation.jobs.push(job)?;
     Ok(())
 }
@@ -58,12 +84,12 @@ fn add_job<P: Policy, M: Tabled>(
     t: u64,
 ) -> Result<(), SimRefusal>
     requires task { o < length sheet.now.tasks }
-    requires time { t ≤ 100000 }
+    requires time { t ≤ most_ticks }
     requires served { Serves M.cuts sheet.now }
-    requires kept { IsKept P.meaning M.cuts sheet.now t simulation.old }
+    requires kept { IsReady P.meaning M.cuts sheet.now t simulation.old }
     ensures moment { OnOk result (moment_of simulation.new ≡
         add_job_by (world_by P.meaning M.cuts sheet.now mode) o t (moment_of simulation.old)) }
-    ensures kept { OnOk result (IsKept P.meaning M.cuts sheet.now t simulation.new) }
+    ensures kept { OnOk result (IsReady P.meaning M.cuts sheet.now t simulation.new) }
     ensures refusal { IfErr result (IsRefusal
         (add_job_by (world_by P.meaning M.cuts sheet.now mode) o t (moment_of simulation.old)).run.jobs) }
 {
@@ -80,10 +106,12 @@ fn add_job<P: Policy, M: Tabled>(
         spare,
         &mut simulation.words,
     )?;
+    let last = simulation.releases[o as usize];
+    let release = draw_release(mode, task.jitter, t, last, &mut simulation.words);
     let job = Job {
         task: o,
         arrival: t,
-        release: t,
+        release,
         cost: load.cost,
         segs: Items::new(load.segs),
     };
@@ -102,12 +130,12 @@ fn add_jobs<P: Policy, M: Tabled>(
     n: u64,
 ) -> Result<(), SimRefusal>
     requires task { o < length sheet.now.tasks }
-    requires time { t ≤ 100000 }
+    requires time { t ≤ most_ticks }
     requires served { Serves M.cuts sheet.now }
-    requires kept { IsKept P.meaning M.cuts sheet.now t simulation.old }
+    requires kept { IsReady P.meaning M.cuts sheet.now t simulation.old }
     ensures moment { OnOk result (moment_of simulation.new ≡
         add_jobs_by (world_by P.meaning M.cuts sheet.now mode) o t n (moment_of simulation.old)) }
-    ensures kept { OnOk result (IsKept P.meaning M.cuts sheet.now t simulation.new) }
+    ensures kept { OnOk result (IsReady P.meaning M.cuts sheet.now t simulation.new) }
     ensures refusal { IfErr result (IsRefusal
         (add_jobs_by (world_by P.meaning M.cuts sheet.now mode) o t n (moment_of simulation.old)).run.jobs) }
 {
@@ -127,13 +155,13 @@ fn arrive_of<P: Policy, M: Tabled>(
     t: u64,
 ) -> Result<(), SimRefusal>
     requires task { o < length sheet.now.tasks }
-    requires time { t ≤ 100000 }
+    requires time { t ≤ most_ticks }
     requires served { Serves M.cuts sheet.now }
-    requires kept { IsKept P.meaning M.cuts sheet.now t simulation.old }
+    requires kept { IsReady P.meaning M.cuts sheet.now t simulation.old }
     requires stage { moment_of simulation.old ≡ moment_with (world_by P.meaning M.cuts sheet.now mode) t o }
     ensures moment { OnOk result (moment_of simulation.new ≡
         arrive_of_by (world_by P.meaning M.cuts sheet.now mode) o t (moment_of simulation.old)) }
-    ensures kept { OnOk result (IsKept P.meaning M.cuts sheet.now t simulation.new) }
+    ensures kept { OnOk result (IsReady P.meaning M.cuts sheet.now t simulation.new) }
     ensures refusal { IfErr result (IsRefusal
         (arrive_of_by (world_by P.meaning M.cuts sheet.now mode) o t (moment_of simulation.old)).run.jobs) }
 {
@@ -151,13 +179,13 @@ pub fn arrive<P: Policy, M: Tabled>(
     simulation: &mut Simulation,
     t: u64,
 ) -> Result<(), SimRefusal>
-    requires time { t ≤ 100000 }
+    requires time { t ≤ most_ticks }
     requires served { Serves M.cuts sheet.now }
-    requires kept { IsKept P.meaning M.cuts sheet.now t simulation.old }
+    requires kept { IsReady P.meaning M.cuts sheet.now t simulation.old }
     requires stage { moment_of simulation.old ≡ moment_after (world_by P.meaning M.cuts sheet.now mode) t }
     ensures moment { OnOk result (moment_of simulation.new ≡
         moment_with (world_by P.meaning M.cuts sheet.now mode) t (length sheet.now.tasks)) }
-    ensures kept { OnOk result (IsKept P.meaning M.cuts sheet.now t simulation.new) }
+    ensures kept { OnOk result (IsReady P.meaning M.cuts sheet.now t simulation.new) }
     ensures refusal { IfErr result (IsRefusal
         (moment_with (world_by P.meaning M.cuts sheet.now mode) t (length sheet.now.tasks)).run.jobs) }
 {

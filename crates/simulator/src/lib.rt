@@ -4,6 +4,7 @@
 mod arrivals;
 mod loads;
 mod refusal;
+mod releases;
 mod running;
 mod simulation;
 mod ticks;

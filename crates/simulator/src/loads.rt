@@ -1,6 +1,7 @@
 //! What a new job needs.
 ghost use Rattle.std.specs.Prelude.{◌≡◌, ◌≤◌, ◌<◌, ◌^◌, true, length, sum, IfOk, OnOk, IfErr};
 ghost use Rattle.std.specs.List.{list_all};
+ghost use Rattle.lists.specs.Limits.{greatest_number};
 ghost use Rattle.task_sheet.specs.declared.tasks.Cut.TheVariants.{Fixed, Floating};
 ghost use Rattle.task_sheet.specs.Rules.{is_in_range, are_in_range};
 ghost use Rattle.task_sheet.specs.Sheets.{CutFits};
@@ -56,7 +57,7 @@ fn fixed_load(
     words: &mut SplitMix64,
 ) -> Result<Load, SimRefusal>
     requires cut { CutFits most (Fixed segments.now) }
-    requires high { most ≤ 1000000000 }
+    requires high { most ≤ greatest_number }
     ensures load { IfOk result (IsLoad mode (Fixed segments.now) most words.old spare) }
     ensures state { OnOk result (words.new ≡ after (words_by mode (Fixed segments.now)) words.old) }
     ensures refusal { IfErr result (IsLoadRefusal spare (segments_by mode (Fixed segments.now)
@@ -115,7 +116,7 @@ fn floating_load(
 ) -> Result<Load, SimRefusal>
     requires cut { CutFits most (Floating bound) }
     requires low { 1 ≤ most }
-    requires high { most ≤ 1000000000 }
+    requires high { most ≤ greatest_number }
     ensures load { IfOk result (IsLoad mode (Floating bound) most words.old spare) }
     ensures state { OnOk result (words.new ≡ after (words_by mode (Floating bound)) words.old) }
     ensures refusal { IfErr result (IsLoadRefusal spare (segments_by mode (Floating bound)
@@ -140,7 +141,7 @@ pub fn draw_load(
 ) -> Result<Load, SimRefusal>
     requires cut { CutFits most cut.now }
     requires low { 1 ≤ most }
-    requires high { most ≤ 1000000000 }
+    requires high { most ≤ greatest_number }
     ensures load { IfOk result (IsLoad mode cut.now most words.old spare) }
     ensures state { OnOk result (words.new ≡ after (words_by mode cut.now) words.old) }
     ensures refusal { IfErr result (IsLoadRefusal spare (segments_by mode cut.now

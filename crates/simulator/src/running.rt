@@ -1,19 +1,21 @@
 //! The simulated run.
-ghost use Rattle.std.specs.Prelude.{◌≡◌, ◌≤◌, ◌<◌, ℕ, [], suc, length, slice_index_or, IfOk, OnOk, IfErr};
+ghost use Rattle.std.specs.Prelude.{◌≡◌, ◌≤◌, ◌<◌, ℕ, [], suc, length, replicate, slice_index_or, IfOk, OnOk, IfErr};
 ghost use Rattle.std.specs.Global.{Vec as GlobalVec};
+ghost use Rattle.lists.specs.Limits.{most_ticks};
 ghost use Rattle.task_sheet.specs.Sheets.{IsValidSheet};
 ghost use Rattle.preemption.specs.CutLaws.{Serves};
 ghost use Rattle.supply.specs.Promises.{sbf_of};
 ghost use Rattle.run_text.specs.Text.{IsWithinLimits};
 ghost use Rattle.schedule_laws.specs.Compliance.{IsCompliant};
 ghost use Rattle.simulated_run.specs.declared.mode.Mode.TheVariants.{Dense};
-ghost use Rattle.simulated_run.specs.Laws.{IsDense, IsPrompt};
+ghost use Rattle.simulated_run.specs.Laws.{IsDense};
 ghost use Rattle.simulated_run.specs.SimulatedRun.{World, world_of, seed_of as seed_by, moment_after};
 ghost use Rattle.simulator.specs.Simulations.{IsSimulation, IsRefusal};
 ghost use Rattle.simulator.specs.SimulationState.{IsKept, world_by, moment_of, moment_with};
 
 use crate::arrivals::arrive;
 use crate::refusal::SimRefusal;
+use crate::releases::let_in;
 use crate::simulation::Simulation;
 use crate::ticks::add_tick;
 use lists::Items;
@@ -24,7 +26,7 @@ use rand_xoshiro::SplitMix64;
 use run_model::Run;
 use simulated_run::{Mode, dense_is_full, simulation_complies};
 use std::alloc::{AllocError, Global};
-use std::collections::BTreeMap;
+use std::collections::{BTreeMap, BTreeSet};
 use supply::Supply;
 use task_sheet::Sheet;
 
@@ -50,6 +52,13 @@ fn no_arrivals(alloc: Global, n: u32) -> Result<Vec<Vec<u64>>, AllocError>
     Ok(lists)
 }
 
+/// No releases, for so many tasks.
+fn no_releases(alloc: Global, n: u32) -> Result<Vec<u64>, AllocError>
+    ensures { IfOk result (λ releases. releases.items ≡ replicate n 0) }
+{
+    vec![in alloc; 0; n as usize]
+}
+
 /// A simulation before the first tick.
 fn start<P: Policy, M: Preemption>(
     alloc: Global,
@@ -62,6 +71,7 @@ fn start<P: Policy, M: Preemption>(
     ensures valid { IsValidSheet sheet.now }
 {
     let arrivals = no_arrivals(alloc, sheet.len())?;
+    let releases = no_releases(alloc, sheet.len())?;
     let counts = vec![in alloc; 0]?;
     Ok(Simulation {
         jobs: Vec::new(alloc),
@@ -69,9 +79,11 @@ fn start<P: Policy, M: Preemption>(
         words: SplitMix64::seed_from_u64(seed_of(mode)),
         left: Vec::new(alloc),
         queue: BTreeMap::new(alloc),
+        coming: BTreeSet::new(alloc),
         inside: None,
         segments: 0,
         arrivals,
+        releases,
         counts,
     })
 }
@@ -84,7 +96,7 @@ fn run_tick<P: Policy, M: Tabled>(
     simulation: &mut Simulation,
     t: u64,
 ) -> Result<(), SimRefusal>
-    requires time { t ≤ 100000 }
+    requires time { t ≤ most_ticks }
     requires served { Serves M.cuts sheet.now }
     requires kept { IsKept P.meaning M.cuts sheet.now t simulation.old }
     requires stage { moment_of simulation.old ≡ moment_after (world_by P.meaning M.cuts sheet.now mode) t }
@@ -94,6 +106,7 @@ fn run_tick<P: Policy, M: Tabled>(
     ensures refusal { IfErr result (IsRefusal
         (moment_with (world_by P.meaning M.cuts sheet.now mode) t (length sheet.now.tasks)).run.jobs) }
 {
+    let_in::<P, M>(sheet, simulation, t)?;
     arrive::<P, M>(alloc, sheet, mode, simulation, t)?;
     add_tick::<P, M>(sheet, mode, simulation, t)?;
     Ok(())
@@ -101,8 +114,8 @@ fn run_tick<P: Policy, M: Tabled>(
 
 /// The simulated run of a sheet's first `n` ticks, up to 100,000; `supply` is what the sheet states.
 ///
-/// The run complies with the sheet, and can be written; each job is released at its arrival. In mode
-/// dense as many jobs arrive at each tick as the curves still admit. It is refused by `Jobs` where it
+/// The run complies with the sheet, and can be written. In mode dense as many jobs arrive at each tick
+/// as the curves still admit. It is refused by `Jobs` where it
 /// has more than 20,000 jobs, and by `Segments` where their segments are more than 1,000,000, as soon
 /// as a job passes a limit; a job that passes both limits passes `Jobs`.
 pub fn simulate<P: Policy, M: Tabled, S: Supply>(
@@ -112,12 +125,11 @@ pub fn simulate<P: Policy, M: Tabled, S: Supply>(
     mode: Mode,
     n: u64,
 ) -> Result<Run, SimRefusal>
-    requires ticks { n ≤ 100000 }
+    requires ticks { n ≤ most_ticks }
     requires served { Serves M.cuts sheet.now }
     requires stated { S.sbf supply.now ≡ sbf_of sheet.now.supply }
     ensures exact { IsSimulation (world_of P.meaning M.cuts (S.sbf supply.now) sheet.now mode) n result }
     ensures complies { IfOk result (IsCompliant P.meaning M.cuts (S.sbf supply.now) sheet.now) }
-    ensures prompt { IfOk result IsPrompt }
     ensures full { mode ≡ Dense → IfOk result (IsDense sheet.now n) }
     ensures within { IfOk result IsWithinLimits }
 {

@@ -1,14 +1,15 @@
 //! The state of a simulation.
 ghost use Rattle.std.specs.Prelude.{◌≡◌, ◌≤◌, ◌<◌, length};
+ghost use Rattle.lists.specs.Limits.{greatest_number};
 ghost use Rattle.simulator.specs.Ranks.{rank_at};
 
 use policy::Policy;
 use rand_xoshiro::SplitMix64;
 use run_model::Tick;
-use std::collections::BTreeMap;
+use std::collections::{BTreeMap, BTreeSet};
 use task_sheet::{Job, Sheet};
 
-/// Where a job stands among those that are not done: by its key, then by its task, its arrival and
+/// Where a job stands among those in the queue: by its key, then by its task, its arrival and
 /// its number.
 #[derive(Clone, Copy, Debug, PartialEq, Eq, PartialOrd, Ord)]
 pub struct Rank {
@@ -19,6 +20,13 @@ pub struct Rank {
     number: u32,
 }
 
+/// When a job that is still to come is released.
+#[derive(Clone, Copy, Debug, PartialEq, Eq, PartialOrd, Ord)]
+pub struct Due {
+    pub release: u64,
+    pub number: u32,
+}
+
 /// The run so far, and what the next tick needs.
 #[derive(Drop)]
 pub struct Simulation {
@@ -27,14 +35,18 @@ pub struct Simulation {
     pub words: SplitMix64,
     /// The service that each job still needs.
     pub left: Vec<u64>,
-    /// The jobs that are not done.
+    /// The jobs that are released and not done.
     pub queue: BTreeMap<Rank, u32>,
+    /// The jobs that are still to be released.
+    pub coming: BTreeSet<Due>,
     /// The job that is inside a segment.
     pub inside: Option<u32>,
     /// How many segments the jobs have.
     pub segments: usize,
     /// For each task, when its jobs arrived, in ascending order.
     pub arrivals: Vec<Vec<u64>>,
+    /// For each task, when its last job was released; 0 where it has none.
+    pub releases: Vec<u64>,
     /// How many ticks before each tick were supplied.
     pub counts: Vec<u64>,
 }
@@ -42,7 +54,7 @@ pub struct Simulation {
 /// The rank of a job with this number.
 pub fn rank_of<P: Policy>(sheet: &Sheet, job: &Job, number: u32) -> Rank
     requires task { job.now.task < length sheet.now.tasks }
-    requires arrival { job.now.arrival ≤ 1000000000 }
+    requires arrival { job.now.arrival ≤ greatest_number }
     ensures { result ≡ rank_at P.meaning sheet.now job.now number }
 {
     let key = P::key(sheet, job);

@@ -1,13 +1,14 @@
 //! What the processor does at a tick.
 ghost use Rattle.std.specs.Prelude.{◌≡◌, ◌≤◌, ◌<◌, ℕ, true, None, Some, suc, cond, length, OnOk, MatchOption};
 ghost use Rattle.std.specs.BTreeMap.{Updates};
+ghost use Rattle.lists.specs.Limits.{most_ticks};
 ghost use Rattle.task_sheet.specs.Sheets.{IsTask};
 ghost use Rattle.preemption.specs.CutLaws.{Serves};
 ghost use Rattle.run_model.specs.declared.run.Tick.TheVariants.{Off, Runs as RunsJob};
 ghost use Rattle.run_model.specs.Runs.{is_on as is_on_by};
 ghost use Rattle.simulated_run.specs.SimulatedRun.{World, choice, with_tick, add_tick as add_tick_by};
 ghost use Rattle.simulator.specs.Ranks.{rank_cmp};
-ghost use Rattle.simulator.specs.SimulationState.{IsKept, IsKeptAt, IsFirstEntry, MayBe, FloatsBy, CanRun, KeepsRest, HasCuts, left_at, world_by, run_of, moment_of, moment_with};
+ghost use Rattle.simulator.specs.SimulationState.{IsKept, IsReady, IsKeptAt, IsFirstEntry, IsRunnable, MayBe, FloatsBy, KeepsRest, HasCuts, world_by, run_of, moment_of, moment_with};
 
 use crate::simulation::{Rank, Simulation, rank_of};
 use crate::words::draw_off;
@@ -35,7 +36,7 @@ fn first_entry(queue: &BTreeMap<Rank, u32>) -> Option<u32>
 
 /// What the processor does where it is supplied.
 fn choose(simulation: &Simulation) -> Tick
-    ensures { (w : World) (t : ℕ) → IsKept w.policy w.cuts w.sheet t simulation.now → result ≡
+    ensures { (w : World) (t : ℕ) → IsReady w.policy w.cuts w.sheet t simulation.now → result ≡
         choice w (run_of simulation.now) t }
 {
     if let Some(k) = simulation.inside {
@@ -49,10 +50,10 @@ fn choose(simulation: &Simulation) -> Tick
 
 /// What the processor does, and nothing where it is off.
 fn pick(simulation: &Simulation, off: bool) -> Tick
-    ensures tick { (w : World) (t : ℕ) → IsKept w.policy w.cuts w.sheet t simulation.now → result ≡
+    ensures tick { (w : World) (t : ℕ) → IsReady w.policy w.cuts w.sheet t simulation.now → result ≡
         cond off Off (choice w (run_of simulation.now) t) }
     ensures may { (w : World) (t : ℕ) → HasCuts w →
-        IsKept w.policy w.cuts w.sheet t simulation.now → MayBe simulation.now result }
+        IsReady w.policy w.cuts w.sheet t simulation.now → MayBe simulation.now t result }
 {
     if off { Tick::Off } else { choose(simulation) }
 }
@@ -91,16 +92,15 @@ fn segment_of(cut: bool, k: u32) -> Option<u32>
 
 /// Runs job `k` for a tick.
 fn run_job<P: Policy, M: Tabled>(sheet: &Sheet, simulation: &mut Simulation, k: u32)
-    requires listed { k < length simulation.old.jobs.items }
-    requires waits { 0 < left_at simulation.old.left.items k }
-    requires chosen { CanRun simulation.old.inside k }
-    requires time { length simulation.old.ticks.items ≤ 100000 }
+    requires runnable { IsRunnable simulation.old (length simulation.old.ticks.items) k }
+    requires time { length simulation.old.ticks.items ≤ most_ticks }
     requires served { Serves M.cuts sheet.now }
-    requires kept { IsKept P.meaning M.cuts sheet.now (length simulation.old.ticks.items) simulation.old }
+    requires kept { IsReady P.meaning M.cuts sheet.now (length simulation.old.ticks.items) simulation.old }
     ensures rest { KeepsRest simulation.old simulation.new }
     ensures kept { IsKeptAt P.meaning M.cuts sheet.now (suc (length simulation.old.ticks.items))
-        (with_tick (run_of simulation.old)
-        (RunsJob k)) simulation.new.left.items simulation.new.queue simulation.new.inside }
+        (suc (length simulation.old.ticks.items)) (suc (length simulation.old.ticks.items))
+        (with_tick (run_of simulation.old) (RunsJob k)) simulation.new.left.items
+        simulation.new.queue simulation.new.coming simulation.new.inside }
 {
     // the sheet is valid, by a clause of this call
     let _valid = sheet.len();
@@ -115,14 +115,15 @@ fn run_job<P: Policy, M: Tabled>(sheet: &Sheet, simulation: &mut Simulation, k: 
 
 /// What a tick does to its job.
 fn advance<P: Policy, M: Tabled>(sheet: &Sheet, simulation: &mut Simulation, tick: Tick)
-    requires tick { MayBe simulation.old tick }
-    requires time { length simulation.old.ticks.items ≤ 100000 }
+    requires tick { MayBe simulation.old (length simulation.old.ticks.items) tick }
+    requires time { length simulation.old.ticks.items ≤ most_ticks }
     requires served { Serves M.cuts sheet.now }
-    requires kept { IsKept P.meaning M.cuts sheet.now (length simulation.old.ticks.items) simulation.old }
+    requires kept { IsReady P.meaning M.cuts sheet.now (length simulation.old.ticks.items) simulation.old }
     ensures rest { KeepsRest simulation.old simulation.new }
     ensures kept { IsKeptAt P.meaning M.cuts sheet.now (suc (length simulation.old.ticks.items))
+        (suc (length simulation.old.ticks.items)) (suc (length simulation.old.ticks.items))
         (with_tick (run_of simulation.old) tick) simulation.new.left.items simulation.new.queue
-        simulation.new.inside }
+        simulation.new.coming simulation.new.inside }
 {
     if let Tick::Runs(k) = tick {
         run_job::<P, M>(sheet, simulation, k);
@@ -146,9 +147,9 @@ pub fn add_tick<P: Policy, M: Tabled>(
     simulation: &mut Simulation,
     t: u64,
 ) -> Result<(), AllocError>
-    requires time { t ≤ 100000 }
+    requires time { t ≤ most_ticks }
     requires served { Serves M.cuts sheet.now }
-    requires kept { IsKept P.meaning M.cuts sheet.now t simulation.old }
+    requires kept { IsReady P.meaning M.cuts sheet.now t simulation.old }
     requires stage { moment_of simulation.old ≡
         moment_with (world_by P.meaning M.cuts sheet.now mode) t (length sheet.now.tasks) }
     ensures moment { OnOk result (moment_of simulation.new ≡

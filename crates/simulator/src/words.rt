@@ -1,8 +1,9 @@
 //! What the words of the generator decide.
 ghost use Rattle.std.specs.Prelude.{◌≡◌, ◌≤◌, ◌<◌, ◌^◌};
+ghost use Rattle.lists.specs.Limits.{greatest_number, most_ticks};
 ghost use Rattle.task_sheet.specs.declared.tasks.Cut.TheVariants.{Full};
 ghost use Rattle.simulated_run.specs.Words.{word, next, after};
-ghost use Rattle.simulated_run.specs.Jobs.{cost_by, words_by, drawn_cost};
+ghost use Rattle.simulated_run.specs.Jobs.{cost_by, words_by, drawn_cost, released_by, after_release};
 ghost use Rattle.simulated_run.specs.SimulatedRun.{arriving, after_arriving, is_off, after_off};
 
 use rand_core::utils::NextWord;
@@ -21,7 +22,7 @@ fn draw(words: &mut SplitMix64) -> u64
 /// One of the costs `1, .., most`, by one word.
 pub fn draw_cost(most: u64, words: &mut SplitMix64) -> u64
     requires low { 1 ≤ most }
-    requires high { most ≤ 1000000000 }
+    requires high { most ≤ greatest_number }
     ensures cost { result ≡ drawn_cost most words.old }
     ensures state { words.new ≡ next words.old }
     ensures few { result ≤ most }
@@ -32,7 +33,7 @@ pub fn draw_cost(most: u64, words: &mut SplitMix64) -> u64
 /// The cost of a job whose task has no fixed segments, where its task allows `most`.
 pub fn cost_of(mode: Mode, most: u64, words: &mut SplitMix64) -> u64
     requires low { 1 ≤ most }
-    requires high { most ≤ 1000000000 }
+    requires high { most ≤ greatest_number }
     ensures cost { result ≡ cost_by mode Full most words.old }
     ensures state { words.new ≡ after (words_by mode Full) words.old }
 {
@@ -55,6 +56,26 @@ pub fn draw_count(mode: Mode, allowance: u64, words: &mut SplitMix64) -> u64
                 0
             } else {
                 draw(words) % (allowance + 1)
+            }
+        }
+    }
+}
+
+/// When a job that arrives at `t` is released, whose task has this jitter and released its job before
+/// at `last`.
+pub fn draw_release(mode: Mode, jitter: u64, t: u64, last: u64, words: &mut SplitMix64) -> u64
+    requires time { t ≤ most_ticks }
+    requires high { jitter ≤ greatest_number }
+    ensures release { result ≡ released_by mode jitter t last words.old }
+    ensures state { words.new ≡ after_release mode jitter words.old }
+{
+    match mode {
+        Mode::Dense => t.max(jitter),
+        Mode::Seed(_) => {
+            if jitter == 0 {
+                t
+            } else {
+                (t + draw(words) % (jitter + 1)).max(last)
             }
         }
     }

@@ -26,7 +26,8 @@ module _ (p : PolicyMeaning) (m : CutMeaning) (sbf : ℕ → ℕ) (sheet : Sheet
   MeetsBoth q = MeetsEnd p m sbf sheet i q.offset q.end × MeetsBound p m sbf sheet i q.offset q.end bound
 
   -- the points from `from` on, where nothing has changed since the last point before
-  chain : (n from last : ℕ) (qs : List Point) → suc from + n ≡ window → last ≤ from → IsSame p sheet i last from → map (λ q. q.offset) qs ≡ passing (is_point p sheet i) (suc from) n → AllByRecursion MeetsBoth qs →
+  chain : (n from last : ℕ) (qs : List Point) → suc from + n ≡ window → last ≤ from → IsSame p sheet i last from →
+      map (λ q. q.offset) qs ≡ passing (is_point p sheet i) (suc from) n → AllByRecursion MeetsBoth qs →
       PointsMeet p m sbf sheet i window bound (Some last) (pairs_of qs)
   chain zero from last [] e le same offsets meet =
       let end : from ≡ window - 1 = omega arith in
@@ -68,7 +69,8 @@ chain_first p m sbf sheet i (suc n) bound (q ∷ qs) one offsets meet =
     )
 
 module _ (p : PolicyMeaning) (m : CutMeaning) (sbf : ℕ → ℕ) (sheet : SheetParts) (i : ℕ) where
-  holds_each : (bound window : ℕ) (qs : List Point) → AllByRecursion (λ q. IsLeast (MeetsEnd p m sbf sheet i q.offset) q.end) qs → AllByRecursion (λ q. MeetsBound p m sbf sheet i q.offset q.end bound) qs → AllByRecursion (MeetsBoth p m sbf sheet i window bound) qs
+  holds_each : (bound window : ℕ) (qs : List Point) → AllByRecursion (λ q. IsLeast (MeetsEnd p m sbf sheet i q.offset) q.end) qs →
+      AllByRecursion (λ q. MeetsBound p m sbf sheet i q.offset q.end bound) qs → AllByRecursion (MeetsBoth p m sbf sheet i window bound) qs
   holds_each bound window [] ends meet = ends
   holds_each bound window (q ∷ qs) ends meet = ((ends.0.holds, meet.0), holds_each bound window qs ends.1 meet.1)
 

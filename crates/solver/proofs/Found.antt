@@ -3,6 +3,7 @@ use Rattle.std.proofs.Common.{◌≡◌, ℕ, zero, suc, ◌+◌, ◌-◌, ◌<�
 use Rattle.std.specs.List.{AllByRecursion}
 use Rattle.std.proofs.lemmas.Bool.{cases_Bool, leb-true, leb-false}
 use Rattle.std.proofs.lemmas.List.{length-map}
+use Rattle.lists.specs.Limits.{most_points}
 use Rattle.lists.specs.Searches.{IsLeast, IsLeastTo}
 use Rattle.task_sheet.specs.SheetParts.{SheetParts}
 use Rattle.task_sheet.specs.Sheets.{task_at}
@@ -42,7 +43,8 @@ module _ (end : ℕ → ℕ) where
   offsets_stay [] = refl
   offsets_stay (a ∷ offsets) = ap (λ rest. a ∷ rest) (offsets_stay offsets)
 
-  each_offset : (P : ℕ → ℕ → Type 0) (limit : ℕ) → ((a : ℕ) → a < limit → P a (end a)) → (offsets : List ℕ) → AllByRecursion (λ a. a < limit) offsets → AllByRecursion (λ (q : Point). P q.offset q.end) (map (λ a. point_of a (end a)) offsets)
+  each_offset : (P : ℕ → ℕ → Type 0) (limit : ℕ) → ((a : ℕ) → a < limit → P a (end a)) → (offsets : List ℕ) → AllByRecursion (λ a. a < limit) offsets →
+      AllByRecursion (λ (q : Point). P q.offset q.end) (map (λ a. point_of a (end a)) offsets)
   each_offset P limit f [] below = tt
   each_offset P limit f (a ∷ offsets) below = (f a below.0, each_offset P limit f offsets below.1)
 
@@ -80,7 +82,7 @@ module _ (p : PolicyMeaning) (m : CutMeaning) (sbf : ℕ → ℕ) (sheet : Sheet
     IsOutcome n (Err Memory) = ⊥
 
     bounded_next : (i room : ℕ) (entries : List Entry) (e : Entry) → i < length sheet.tasks → EntriesSoFar p m sbf sheet horizon i room entries → IsBestEntry p m sbf sheet i e → e.window ≤ horizon →
-        points_to entries i + length (points_below p sheet i e.window) ≤ 1000000 → IsOutcome (suc i) (bounded_entry horizon i entries e)
+        points_to entries i + length (points_below p sheet i e.window) ≤ most_points → IsOutcome (suc i) (bounded_entry horizon i entries e)
     bounded_next i room entries e l so_far best within few = elim (cases_Bool (nat_le e.bound horizon)) [
       | inl t ↦ rw t (
         room - length (points_below p sheet i e.window),
@@ -97,10 +99,11 @@ module _ (p : PolicyMeaning) (m : CutMeaning) (sbf : ℕ → ℕ) (sheet : Sheet
       })
     ]
 
-    entry_next : (i room : ℕ) (entries : List Entry) → i < length sheet.tasks → EntriesSoFar p m sbf sheet horizon i room entries → (found : Option ℕ) → IsLeastTo (IsWindow p m sbf sheet i) horizon found →
+    entry_next : (i room : ℕ) (entries : List Entry) → i < length sheet.tasks → EntriesSoFar p m sbf sheet horizon i room entries → (found : Option ℕ) →
+        IsLeastTo (IsWindow p m sbf sheet i) horizon found →
         IsOutcome (suc i) (with_entry p m sbf sheet horizon i entries found)
     entry_next i room entries l so_far None none = record { before = (entries, have_entries p m sbf sheet horizon i room entries l so_far); none = none }
-    entry_next i room entries l so_far (Some window) found = elim (cases_Bool (nat_le (points_to entries i + length (points_below p sheet i window)) 1000000)) [
+    entry_next i room entries l so_far (Some window) found = elim (cases_Bool (nat_le (points_to entries i + length (points_below p sheet i window)) most_points)) [
       | inl t ↦
           let same = its_window i window in
           rw t
@@ -124,7 +127,7 @@ module _ (p : PolicyMeaning) (m : CutMeaning) (sbf : ℕ → ℕ) (sheet : Sheet
 
     outcome_found : (n : ℕ) → n ≤ length sheet.tasks → IsOutcome n (first_entries p m sbf sheet horizon n)
     unfolding first_entries
-    outcome_found zero le = (1000000, entries_none p m sbf sheet horizon)
+    outcome_found zero le = (most_points, entries_none p m sbf sheet horizon)
     outcome_found (suc n) le = outcome_next n (omega arith) (first_entries p m sbf sheet horizon n) (outcome_found n (omega arith))
 
     answer_of : (r : Result (List Entry) AnalyseRefusal) → IsOutcome (length sheet.tasks) r → IsAnswer p m sbf sheet horizon (as_cert r)

@@ -18,13 +18,15 @@ least_here P n h below = record {
 }
 
 module _ (p : PolicyMeaning) (m : CutMeaning) (sbf : ℕ → ℕ) (sheet : SheetParts) (laws : Laws p m sbf sheet) (i : ℕ) where
-  pub window_here : (window next : ℕ) → 1 ≤ window → next ≤ window → window_need_of p m sheet i window ≤ sbf next → ((k : ℕ) → k < window → IsWindow p m sbf sheet i k → ⊥) → IsLeast (IsWindow p m sbf sheet i) window
+  pub window_here : (window next : ℕ) → 1 ≤ window → next ≤ window → window_need_of p m sheet i window ≤ sbf next →
+      ((k : ℕ) → k < window → IsWindow p m sbf sheet i k → ⊥) → IsLeast (IsWindow p m sbf sheet i) window
   window_here window next one le h below = least_here _ _ (record { positive = one; enough = omega (arith, grows sbf laws next window le, h) }) below
 
   pub end_here : (a x next : ℕ) → next ≤ x → need_of p m sheet i a x ≤ sbf next → ((k : ℕ) → k < x → MeetsEnd p m sbf sheet i a k → ⊥) → IsLeast (MeetsEnd p m sbf sheet i a) x
   end_here a x next le h below = least_here _ _ (record { enough = omega (arith, grows sbf laws next x le, h) }) below
 
-  pub bound_here : (a x done bound : ℕ) → IsLeast (λ n. need_of p m sheet i a x + rest_of m sheet i ≤ sbf n) done → bound ≡ max done x - a + (task_at sheet i).jitter → IsLeast (BoundMeets p m sbf sheet i a x) bound
+  pub bound_here : (a x done bound : ℕ) → IsLeast (λ n. need_of p m sheet i a x + rest_of m sheet i ≤ sbf n) done →
+      bound ≡ max done x - a + (task_at sheet i).jitter → IsLeast (BoundMeets p m sbf sheet i a x) bound
   bound_here a x done bound least e =
       let reach = max done x - a in
       let serves : Reaches p m sbf sheet i a x reach = record { end = omega arith; enough = omega (arith, least.holds, grows sbf laws done (a + reach) (omega arith)) } in

@@ -28,7 +28,8 @@ module _ (p : PolicyMeaning) (m : CutMeaning) (sbf : ℕ → ℕ) (sheet : Sheet
       let le : x ≤ y = least.least y serves.end in
       record { end = omega (arith, serves.within.end); enough = omega (arith, serves.within.enough, laws.need_grows i a x y in_range le) }
 
-  each_serves : (bound window : ℕ) (qs : List Point) → EveryOffset p m sbf sheet i window bound → AllByRecursion (λ q. IsLeast (MeetsEnd p m sbf sheet i q.offset) q.end) qs → AllByRecursion (λ q. q.offset < window) qs →
+  each_serves : (bound window : ℕ) (qs : List Point) → EveryOffset p m sbf sheet i window bound →
+      AllByRecursion (λ q. IsLeast (MeetsEnd p m sbf sheet i q.offset) q.end) qs → AllByRecursion (λ q. q.offset < window) qs →
       AllByRecursion (λ q. MeetsBound p m sbf sheet i q.offset q.end bound) qs
   each_serves bound window [] serves ends below = tt
   each_serves bound window (q ∷ qs) serves ends below =
@@ -58,17 +59,20 @@ module _ (p : PolicyMeaning) (m : CutMeaning) (sbf : ℕ → ℕ) (sheet : Sheet
   pub window_serves : (window : ℕ) → IsWindow p m sbf sheet i window → EveryOffset p m sbf sheet i window (window + (task_at sheet i).jitter)
   window_serves window w a lt = (window, record { end = window_ends window a w lt; within = window_reaches window a window w lt (omega arith) })
 
-  pub window_each : (window : ℕ) (qs : List Point) → IsWindow p m sbf sheet i window → AllByRecursion (λ q. IsLeast (MeetsEnd p m sbf sheet i q.offset) q.end) qs → AllByRecursion (λ q. q.offset < window) qs →
+  pub window_each : (window : ℕ) (qs : List Point) → IsWindow p m sbf sheet i window →
+      AllByRecursion (λ q. IsLeast (MeetsEnd p m sbf sheet i q.offset) q.end) qs → AllByRecursion (λ q. q.offset < window) qs →
       MeetsEach p m sbf sheet i qs (window + (task_at sheet i).jitter)
   window_each window qs w ends below = record { covers = omega arith; each = each_serves (window + (task_at sheet i).jitter) window qs (window_serves window w) ends below }
 
   pub end_exists : (window a : ℕ) → IsWindow p m sbf sheet i window → a < window → ((x : ℕ) → x ≤ window → MeetsEnd p m sbf sheet i a x → ⊥) → ⊥
   end_exists window a w lt none = none window (omega arith) (window_ends window a w lt)
 
-  pub bound_exists : (window limit a x : ℕ) → limit ≡ window + (task_at sheet i).jitter → IsWindow p m sbf sheet i window → a < window → x ≤ window → ((bound : ℕ) → bound ≤ limit → BoundMeets p m sbf sheet i a x bound → ⊥) → ⊥
+  pub bound_exists : (window limit a x : ℕ) → limit ≡ window + (task_at sheet i).jitter → IsWindow p m sbf sheet i window → a < window → x ≤ window →
+      ((bound : ℕ) → bound ≤ limit → BoundMeets p m sbf sheet i a x bound → ⊥) → ⊥
   bound_exists window limit a x e w lt le none = none (window + (task_at sheet i).jitter) (omega (arith, e)) (record { covers = omega arith; within = window_reaches window a x w lt le })
 
-  pub each_within : (window horizon : ℕ) (qs : List Point) → window ≤ horizon → IsWindow p m sbf sheet i window → AllByRecursion (λ q. IsLeast (MeetsEnd p m sbf sheet i q.offset) q.end) qs → AllByRecursion (λ q. q.offset < window) qs →
+  pub each_within : (window horizon : ℕ) (qs : List Point) → window ≤ horizon → IsWindow p m sbf sheet i window →
+      AllByRecursion (λ q. IsLeast (MeetsEnd p m sbf sheet i q.offset) q.end) qs → AllByRecursion (λ q. q.offset < window) qs →
       AllByRecursion (λ q. (q.offset ≤ horizon) × (q.end ≤ horizon)) qs
   each_within window horizon [] le w ends below = tt
   each_within window horizon (q ∷ qs) le w ends below =

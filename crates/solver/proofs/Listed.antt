@@ -3,6 +3,7 @@ use Rattle.std.proofs.lemmas.Bool.{cases_lt}
 use Rattle.std.proofs.lemmas.List.{length-map}
 use Rattle.std.proofs.Math.ListN.{get_or-append}
 use Rattle.std.proofs.Math.Seq.{get_or-append_seam}
+use Rattle.lists.specs.Limits.{most_points}
 use Rattle.task_sheet.specs.SheetParts.{SheetParts}
 use Rattle.policy.specs.PolicyMeaning.{PolicyMeaning}
 use Rattle.preemption.specs.CutMeaning.{CutMeaning}
@@ -15,7 +16,7 @@ use Rattle.solver.specs.Best.{IsBestUpTo, nth_entry, AreBest, points_to, HaveEnt
 pub record EntriesSoFar (p : PolicyMeaning) (m : CutMeaning) (sbf : ℕ → ℕ) (sheet : SheetParts) (horizon i room : ℕ) (entries : List Entry) : Type 0 where
   pub count : length entries ≡ i
   pub best : AreBest p m sbf sheet horizon entries
-  pub room_left : points_to entries i + room ≡ 1000000
+  pub room_left : points_to entries i + room ≡ most_points
 
 entry_before : (entries : List Entry) (e : Entry) (k : ℕ) → k < length entries → nth_entry (entries ++ e ∷ []) k ≡ nth_entry entries k
 entry_before entries e k l = get_or-append entries (e ∷ []) _ k l
@@ -39,7 +40,7 @@ points_one entries (suc n) i l = elim (cases_lt i n) [
 ]
 
 module _ (p : PolicyMeaning) (m : CutMeaning) (sbf : ℕ → ℕ) (sheet : SheetParts) (horizon : ℕ) where
-  pub entries_none : EntriesSoFar p m sbf sheet horizon 0 1000000 []
+  pub entries_none : EntriesSoFar p m sbf sheet horizon 0 most_points []
   entries_none = record { count = refl; best = λ i l. absurd (omega arith); room_left = refl }
 
   pub entries_more : (i room count : ℕ) (entries : List Entry) (e : Entry) → EntriesSoFar p m sbf sheet horizon i room entries → IsBestUpTo p m sbf sheet horizon i e →

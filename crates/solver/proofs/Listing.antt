@@ -98,7 +98,8 @@ module _ (p : PolicyMeaning) (m : CutMeaning) (sbf : ℕ → ℕ) (sheet : Sheet
       record { end = omega (arith, meets.end); enough = omega (arith, meets.enough, grows sbf laws (a + low - jitter) (a + high - jitter) (omega arith)) }
 
   -- the greatest of two least bounds is the least for both
-  bound_more : (points : List Point) (a x bound least : ℕ) → IsLeast (MeetsEach p m sbf sheet i points) bound → IsLeast (BoundMeets p m sbf sheet i a x) least → IsLeast (MeetsEach p m sbf sheet i (points ++ point_of a x ∷ [])) (max least bound)
+  bound_more : (points : List Point) (a x bound least : ℕ) → IsLeast (MeetsEach p m sbf sheet i points) bound → IsLeast (BoundMeets p m sbf sheet i a x) least →
+      IsLeast (MeetsEach p m sbf sheet i (points ++ point_of a x ∷ [])) (max least bound)
   bound_more points a x bound least so_far here = record {
     holds = record {
       covers = omega (arith, here.holds.covers);

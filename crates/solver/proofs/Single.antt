@@ -3,6 +3,7 @@ use Rattle.std.proofs.Common.{◌≡◌, ℕ, zero, suc, ◌<◌, ◌≤◌, Lis
 use Rattle.std.specs.List.{AllByRecursion}
 use Rattle.std.proofs.lemmas.Bool.{cases_lt, cases_order}
 use Rattle.std.proofs.lemmas.List.{ext_get_or, length-map}
+use Rattle.lists.specs.Limits.{most_points}
 use Rattle.lists.specs.Searches.{IsLeast}
 use Rattle.task_sheet.specs.SheetParts.{SheetParts}
 use Rattle.policy.specs.PolicyMeaning.{PolicyMeaning}
@@ -38,7 +39,9 @@ point_same : (a b x y : ℕ) → a ≡ b → x ≡ y → point_of a x ≡ point_
 point_same a b x y e f = rw (e, f) refl
 
 module _ (p : PolicyMeaning) (m : CutMeaning) (sbf : ℕ → ℕ) (sheet : SheetParts) where
-  same_points : (i : ℕ) (qs rs : List Point) → map (λ q. q.offset) qs ≡ map (λ q. q.offset) rs → AllByRecursion (λ q. IsLeast (MeetsEnd p m sbf sheet i q.offset) q.end) qs → AllByRecursion (λ q. IsLeast (MeetsEnd p m sbf sheet i q.offset) q.end) rs → qs ≡ rs
+  same_points : (i : ℕ) (qs rs : List Point) → map (λ q. q.offset) qs ≡ map (λ q. q.offset) rs →
+      AllByRecursion (λ q. IsLeast (MeetsEnd p m sbf sheet i q.offset) q.end) qs → AllByRecursion (λ q. IsLeast (MeetsEnd p m sbf sheet i q.offset) q.end) rs →
+      qs ≡ rs
   same_points i [] [] e a b = refl
   same_points i [] (r ∷ rs) e a b = cc
   same_points i (q ∷ qs) [] e a b = cc
@@ -80,7 +83,7 @@ module _ (p : PolicyMeaning) (m : CutMeaning) (sbf : ℕ → ℕ) (sheet : Sheet
   record HaveFirst (i : ℕ) (entries : List Entry) : Type 0 where
     pub count : length entries ≡ i
     pub best : AreBest p m sbf sheet horizon entries
-    pub few : points_to entries i ≤ 1000000
+    pub few : points_to entries i ≤ most_points
 
   -- no such entries go on past task i
   abbrev Stops : ℕ → Type 0

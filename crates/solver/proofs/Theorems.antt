@@ -1,6 +1,7 @@
 use Rattle.std.proofs.Common.{◌≡◌, ℕ, ◌<◌, ◌≤◌, false, None, length, arith, Result, Ok, Err}
 use Rattle.std.specs.Prelude.{IfOk, IfErr}
 use Rattle.std.proofs.lemmas.List.Elements.{All-from_recursion, All-get_or, All-from_get_or}
+use Rattle.lists.specs.Limits.{greatest_number}
 use Rattle.task_sheet.specs.SheetParts.{SheetParts}
 use Rattle.policy.specs.PolicyMeaning.{PolicyMeaning}
 use Rattle.preemption.specs.CutMeaning.{CutMeaning}
@@ -84,7 +85,7 @@ module _ (p : PolicyMeaning) (m : CutMeaning) (sbf : ℕ → ℕ) (sheet : Sheet
     pub best_up_to : IsUpTo horizon cert
     best_up_to = All-from_get_or (IsEntryUpTo horizon) cert.entries no_entry entry_up_to
 
-    entry_fits : horizon ≤ 1000000000 → (i : ℕ) → i < length cert.entries → IsEntry (entry_at cert i)
+    entry_fits : horizon ≤ greatest_number → (i : ℕ) → i < length cert.entries → IsEntry (entry_at cert i)
     entry_fits top i l =
         let own = best.best i l in
         let e = entry_at cert i in
@@ -92,7 +93,7 @@ module _ (p : PolicyMeaning) (m : CutMeaning) (sbf : ℕ → ℕ) (sheet : Sheet
         let small = entry_up_to i l in
         let meets = entry_meets p m sbf sheet i e own.best in
         let below = below_each p m sbf sheet laws i task e.window e.bound None e.points meets.points in
-        let each = each_within p m sbf sheet laws i task e.window 1000000000 e.points (omega (arith, own.window)) own.best.window.holds own.best.ends below in
+        let each = each_within p m sbf sheet laws i task e.window greatest_number e.points (omega (arith, own.window)) own.best.window.holds own.best.ends below in
         record {
           window = omega (arith, small.window);
           bound = omega (arith, small.bound);
@@ -101,7 +102,7 @@ module _ (p : PolicyMeaning) (m : CutMeaning) (sbf : ℕ → ℕ) (sheet : Sheet
           points = All-from_recursion IsPoint e.points (each_weaker _ IsPoint e.points (λ q h. record { offset = h.0; end = h.1 }) each);
         }
 
-    pub best_within : horizon ≤ 1000000000 → IsWithinGrammar cert
+    pub best_within : horizon ≤ greatest_number → IsWithinGrammar cert
     best_within top = record {
       some = omega (arith, best.count, laws.valid.some);
       few = omega (arith, best.count, laws.valid.few);

@@ -2,6 +2,7 @@
 use Rattle.std.specs.List.{AllByRecursion}
 use Rattle.std.proofs.Common.{◌≡◌, ℕ, zero, suc, ◌+◌, ◌<◌, ◌≤◌, Bool, true, cond, Option, Some, None, List, [], ◌∷◌, ◌++◌, length, Ok, refl, ap, ◌∙◌, arith, inl, inr}
 use Rattle.std.proofs.lemmas.Bool.{both_ways, cases_lt, cases_Bool, and_parts, and_from, leb-true, le-leb}
+use Rattle.lists.specs.Limits.{most_points}
 use Rattle.lists.specs.Firsts.{first_of}
 use Rattle.lists.specs.Searches.{IsLeast, IsLeastTo}
 use Rattle.task_sheet.specs.SheetParts.{SheetParts}
@@ -97,8 +98,9 @@ module _ (p : PolicyMeaning) (m : CutMeaning) (sbf : ℕ → ℕ) (sheet : Sheet
   window_found limit = least_to_is (IsWindow p m sbf sheet i) (is_window p m sbf sheet i) (window_means p m sbf sheet i) (window_true p m sbf sheet i) limit
 
 -- the function goes on with the entry of the least window
-pub next_entry : (p : PolicyMeaning) (m : CutMeaning) (sbf : ℕ → ℕ) (sheet : SheetParts) (horizon i : ℕ) (entries : List Entry) → first_entries p m sbf sheet horizon i ≡ Ok entries → (window : ℕ) → window ≤ horizon → IsLeast (IsWindow p m sbf sheet i) window →
-    points_to entries i + length (points_below p sheet i window) ≤ 1000000 → (best_of_window p m sbf sheet i window).bound ≤ horizon →
+pub next_entry : (p : PolicyMeaning) (m : CutMeaning) (sbf : ℕ → ℕ) (sheet : SheetParts) (horizon i : ℕ) (entries : List Entry) →
+    first_entries p m sbf sheet horizon i ≡ Ok entries → (window : ℕ) → window ≤ horizon → IsLeast (IsWindow p m sbf sheet i) window →
+    points_to entries i + length (points_below p sheet i window) ≤ most_points → (best_of_window p m sbf sheet i window).bound ≤ horizon →
     first_entries p m sbf sheet horizon (suc i) ≡ Ok (entries ++ best_of_window p m sbf sheet i window ∷ [])
 unfolding first_entries
 next_entry p m sbf sheet horizon i entries before window le least few within = rw (before, found_is (IsWindow p m sbf sheet i) horizon window _ (window_found p m sbf sheet i horizon) le least, le-leb _ _ few, le-leb _ _ within) refl

@@ -1,6 +1,7 @@
 -- The best certificate, and why there is none.
 use Rattle.std.specs.Prelude.{◌≡◌, ℕ, zero, suc, ◌+◌, ◌<◌, ◌≤◌, false, None, List, map, length, All, slice_index_or}
 use Rattle.std.specs.List.{AllByRecursion}
+use Rattle.lists.specs.Limits.{most_points}
 use Rattle.lists.specs.Searches.{IsLeast}
 use Rattle.task_sheet.specs.SheetParts.{SheetParts}
 use Rattle.policy.specs.PolicyMeaning.{PolicyMeaning}
@@ -51,14 +52,14 @@ points_to entries (suc n) = points_to entries n + length (nth_entry entries n).p
 pub record IsBest (p : PolicyMeaning) (m : CutMeaning) (sbf : ℕ → ℕ) (sheet : SheetParts) (horizon : ℕ) (cert : Cert) : Type 0 where
   pub count : length cert.entries ≡ length sheet.tasks
   pub best : AreBest p m sbf sheet horizon cert.entries
-  pub few : points_to cert.entries (length sheet.tasks) ≤ 1000000
+  pub few : points_to cert.entries (length sheet.tasks) ≤ most_points
 
 -- the tasks before i have their best entries, and no more points than are allowed
 pub record HaveEntries (p : PolicyMeaning) (m : CutMeaning) (sbf : ℕ → ℕ) (sheet : SheetParts) (horizon i : ℕ) (entries : List Entry) : Type 0 where
   pub task : i < length sheet.tasks
   pub count : length entries ≡ i
   pub best : AreBest p m sbf sheet horizon entries
-  pub few : points_to entries i ≤ 1000000
+  pub few : points_to entries i ≤ most_points
 
 -- each task before i has its entry, and no window of i up to the horizon meets K3
 pub record HasNoWindow (p : PolicyMeaning) (m : CutMeaning) (sbf : ℕ → ℕ) (sheet : SheetParts) (horizon i : ℕ) : Type 0 where
@@ -72,7 +73,7 @@ pub record HasManyPoints (p : PolicyMeaning) (m : CutMeaning) (sbf : ℕ → ℕ
   pub window : ℕ
   pub within : window ≤ horizon
   pub least : IsLeast (IsWindow p m sbf sheet i) window
-  pub many : 1000000 < points_to entries i + length (points_below p sheet i window)
+  pub many : most_points < points_to entries i + length (points_below p sheet i window)
 
 -- each task before i has its entry and i a window, with whose points there are no more than are allowed, and
 -- the least bound for them is above the horizon
@@ -82,7 +83,7 @@ pub record HasLateBound (p : PolicyMeaning) (m : CutMeaning) (sbf : ℕ → ℕ)
   pub entry : Entry
   pub best : IsBestEntry p m sbf sheet i entry
   pub within : entry.window ≤ horizon
-  pub few : points_to entries i + length entry.points ≤ 1000000
+  pub few : points_to entries i + length entry.points ≤ most_points
   pub late : horizon < entry.bound
 
 -- task i has no bound, for want of this part

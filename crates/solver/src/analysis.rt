@@ -1,5 +1,6 @@
 //! The analysis of a whole sheet.
 ghost use Rattle.std.specs.Prelude.{◌≡◌, ◌≤◌, false, None, IfOk, IfErr};
+ghost use Rattle.lists.specs.Limits.{greatest_number};
 ghost use Rattle.preemption.specs.CutLaws.{Serves};
 ghost use Rattle.certificate.specs.Text.{IsWithinGrammar};
 ghost use Rattle.conditions.specs.Conditions.{failed_of};
@@ -11,6 +12,7 @@ use crate::laws::laws;
 use crate::searches::least_window;
 use certificate::Cert;
 use lists::Items;
+use lists::limits::MOST_POINTS;
 use policy::Policy;
 use preemption::Preemption;
 use std::alloc::Global;
@@ -37,8 +39,6 @@ pub enum AnalyseRefusal {
     Memory,
 }
 
-const MAX_POINTS: u64 = 1_000_000;
-
 /// The best certificate up to the horizon, or why there is none.
 fn best_cert<P: Policy, M: Preemption, S: Supply>(
     alloc: Global,
@@ -46,14 +46,14 @@ fn best_cert<P: Policy, M: Preemption, S: Supply>(
     supply: &S,
     horizon: u64,
 ) -> Result<Cert, AnalyseRefusal>
-    requires horizon { horizon ≤ 1000000000 }
+    requires horizon { horizon ≤ greatest_number }
     requires served { Serves M.cuts sheet.now }
     ensures best { IfOk result (IsBest P.meaning M.cuts (S.sbf supply.now) sheet.now horizon) }
     ensures cause { IfErr result (HasCause P.meaning M.cuts (S.sbf supply.now) sheet.now horizon) }
 {
     laws::<P, M, S>(sheet, supply);
     let mut entries = Vec::new(alloc);
-    let mut room = MAX_POINTS;
+    let mut room = MOST_POINTS;
     for i in 0..sheet.len() {
         let Some(window) = least_window::<P, M, S>(sheet, supply, i, horizon) else {
             return Err(AnalyseRefusal::NoBound {
@@ -95,16 +95,18 @@ pub fn analyse<P: Policy, M: Preemption, S: Supply>(
     supply: &S,
     horizon: u64,
 ) -> Result<Cert, AnalyseRefusal>
-    requires horizon { horizon ≤ 1000000000 }
+    requires horizon { horizon ≤ greatest_number }
     requires served { Serves M.cuts sheet.now }
     ensures best { IfOk result (IsBest P.meaning M.cuts (S.sbf supply.now) sheet.now horizon) }
-    ensures meets { IfOk result (λ cert. failed_of P.meaning M.cuts (S.sbf supply.now) sheet.now false cert ≡ None) }
+    ensures meets { IfOk result (λ cert.
+        failed_of P.meaning M.cuts (S.sbf supply.now) sheet.now false cert ≡ None) }
     ensures within { IfOk result IsWithinGrammar }
     ensures up_to { IfOk result (IsUpTo horizon) }
     ensures least { IfOk result (NoneSmaller P.meaning M.cuts (S.sbf supply.now) sheet.now) }
     ensures cause { IfErr result (HasCause P.meaning M.cuts (S.sbf supply.now) sheet.now horizon) }
     ensures exact { IsBestAnswer P.meaning M.cuts (S.sbf supply.now) sheet.now horizon result }
-    ensures none { IfErr result (NoneWhereNoBound P.meaning M.cuts (S.sbf supply.now) sheet.now horizon) }
+    ensures none { IfErr result
+        (NoneWhereNoBound P.meaning M.cuts (S.sbf supply.now) sheet.now horizon) }
 {
     laws::<P, M, S>(sheet, supply);
     best_cert::<P, M, S>(alloc, sheet, supply, horizon)

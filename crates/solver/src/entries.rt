@@ -1,5 +1,6 @@
 //! The best entry of one task.
 ghost use Rattle.std.specs.Prelude.{◌≡◌, ◌≤◌, ◌<◌, length, IfOk};
+ghost use Rattle.lists.specs.Limits.{greatest_number};
 ghost use Rattle.lists.specs.Searches.{IsLeast};
 ghost use Rattle.preemption.specs.CutLaws.{Serves};
 ghost use Rattle.demand.specs.Meeting.{IsWindow};
@@ -21,7 +22,7 @@ use task_sheet::Sheet;
 pub fn count_points<P: Policy>(sheet: &Sheet, i: u32, window: u64, room: u64) -> Option<u64>
     requires task { i < length sheet.now.tasks }
     requires some { 1 ≤ window }
-    requires window { window ≤ 1000000000 }
+    requires window { window ≤ greatest_number }
     ensures { IsCount (length (points_below P.meaning sheet.now i window)) room result }
 {
     let mut count = 0;
@@ -46,7 +47,7 @@ pub fn best_entry<P: Policy, M: Preemption, S: Supply>(
     window: u64,
 ) -> Result<Entry, AllocError>
     requires task { i < length sheet.now.tasks }
-    requires window { window ≤ 1000000000 }
+    requires window { window ≤ greatest_number }
     requires least { IsLeast (IsWindow P.meaning M.cuts (S.sbf supply.now) sheet.now i) window }
     requires served { Serves M.cuts sheet.now }
     ensures best { IfOk result (IsBestEntry P.meaning M.cuts (S.sbf supply.now) sheet.now i) }

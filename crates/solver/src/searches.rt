@@ -3,6 +3,7 @@
 //! Each search jumps: what is asked for within a window is supplied at the soonest within the least
 //! window that supplies it, and no window between the two is enough.
 ghost use Rattle.std.specs.Prelude.{◌≤◌, ◌<◌, length};
+ghost use Rattle.lists.specs.Limits.{greatest_number};
 ghost use Rattle.lists.specs.Searches.{IsLeastTo};
 ghost use Rattle.preemption.specs.CutLaws.{Serves};
 ghost use Rattle.demand.specs.Meeting.{IsWindow, MeetsEnd, BoundMeets};
@@ -22,7 +23,7 @@ pub fn least_window<P: Policy, M: Preemption, S: Supply>(
     horizon: u64,
 ) -> Option<u64>
     requires task { i < length sheet.now.tasks }
-    requires horizon { horizon ≤ 1000000000 }
+    requires horizon { horizon ≤ greatest_number }
     requires served { Serves M.cuts sheet.now }
     ensures { IsLeastTo (IsWindow P.meaning M.cuts (S.sbf supply.now) sheet.now i) horizon result }
 {
@@ -50,8 +51,8 @@ pub fn least_end<P: Policy, M: Preemption, S: Supply>(
     limit: u64,
 ) -> Option<u64>
     requires task { i < length sheet.now.tasks }
-    requires offset { a ≤ 1000000000 }
-    requires limit { limit ≤ 1000000000 }
+    requires offset { a ≤ greatest_number }
+    requires limit { limit ≤ greatest_number }
     requires served { Serves M.cuts sheet.now }
     ensures { IsLeastTo (MeetsEnd P.meaning M.cuts (S.sbf supply.now) sheet.now i a) limit result }
 {
@@ -81,11 +82,12 @@ pub fn least_bound<P: Policy, M: Preemption, S: Supply>(
     limit: u64,
 ) -> Option<u64>
     requires task { i < length sheet.now.tasks }
-    requires offset { a ≤ 1000000000 }
-    requires end { x ≤ 1000000000 }
+    requires offset { a ≤ greatest_number }
+    requires end { x ≤ greatest_number }
     requires limit { limit ≤ 2000000000 }
     requires served { Serves M.cuts sheet.now }
-    ensures { IsLeastTo (BoundMeets P.meaning M.cuts (S.sbf supply.now) sheet.now i a x) limit result }
+    ensures { IsLeastTo (BoundMeets P.meaning M.cuts (S.sbf supply.now) sheet.now i a x) limit
+        result }
 {
     laws::<P, M, S>(sheet, supply);
     let wanted = need::<P, M>(sheet, i, a, x) + rest::<M>(sheet, i) as u128;

@@ -3,6 +3,7 @@ use Rattle.std.proofs.Common.{◌≡◌, ℕ, ◌+◌, ◌*◌, ◌/◌, ◌%◌
 use Rattle.std.proofs.lemmas.Bool.{cases_lt, cases_order, and_parts, leb-true, ltb-true}
 use Rattle.std.proofs.lemmas.Bool.Decides.{nat_tests}
 use Rattle.std.proofs.Math.Nat.{mul-le-mul_left}
+use Rattle.lists.specs.Limits.{greatest_number, most_parts}
 use Rattle.curve.proofs.CurveFacts.{digits_mono}
 use Rattle.task_sheet.specs.Rules.{rise_above, last_number}
 use Rattle.task_sheet.specs.SheetParts.{SheetParts}
@@ -58,9 +59,9 @@ count_step (t ∷ times) low r rise =
 -- what a promise says, as facts
 pub record Facts (horizon : ℕ) (times : List ℕ) : Type 0 where
   pub positive : 0 < horizon
-  pub high : horizon ≤ 1000000000
+  pub high : horizon ≤ greatest_number
   pub some : 1 ≤ length times
-  pub few : length times ≤ 1000
+  pub few : length times ≤ most_parts
   pub rise : rise_above 0 times ≡ true
   pub last : last_number 0 times ≤ horizon
 
@@ -72,7 +73,7 @@ facts_of p h =
       positive = h.0;
       high = h.1;
       some = leb-true 1 (length p.times) counts.0;
-      few = leb-true (length p.times) 1000 counts.1;
+      few = leb-true (length p.times) most_parts counts.1;
       rise = parts.0;
       last = leb-true (last_number 0 p.times) p.horizon parts.1;
     }

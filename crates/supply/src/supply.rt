@@ -29,7 +29,8 @@ pub trait Supply {
 
     ghost starts: { (x : Self) → is_supply x → sbf x 0 ≡ 0 };
 
-    ghost grows: { (x : Self) (d : ℕ) → is_supply x → (sbf x d ≤ sbf x (d + 1)) × (sbf x (d + 1) ≤ sbf x d + 1) };
+    ghost grows: { (x : Self) (d : ℕ) → is_supply x → (sbf x d ≤ sbf x (d + 1)) ×
+        (sbf x (d + 1) ≤ sbf x d + 1) };
 
     ghost whole: { (x : Self) (d : ℕ) → WHOLE ≡ true → sbf x d ≡ d };
 }

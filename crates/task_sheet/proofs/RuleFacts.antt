@@ -6,6 +6,7 @@ use Rattle.std.proofs.lemmas.Bool.Decides.{not_from_Decides}
 use Rattle.std.proofs.lemmas.Slice.Eq.{bytes_eq-Decides}
 use Rattle.std.proofs.lemmas.List.Folds.{list_any-append}
 use Rattle.std.proofs.lemmas.List.Sums.{sum_by-cons}
+use Rattle.lists.specs.Limits.{greatest_number, most_tasks}
 use Rattle.curve.specs.Validity.{IsCurve}
 use Rattle.task_sheet.specs.declared.tasks.PolicyKind.{PolicyKind}
 use Rattle.task_sheet.specs.declared.tasks.SupplySpec.{SupplySpec}
@@ -33,14 +34,14 @@ holds_then b e f h = rw h refl
 pub positive_low : (n : ℕ) → is_in_range n ≡ true → 1 ≤ n
 positive_low n h = leb-true 1 n (and_parts _ _ h).0
 
-pub positive_high : (n : ℕ) → is_in_range n ≡ true → n ≤ 1000000000
-positive_high n h = leb-true n 1000000000 (and_parts _ _ h).1
+pub positive_high : (n : ℕ) → is_in_range n ≡ true → n ≤ greatest_number
+positive_high n h = leb-true n greatest_number (and_parts _ _ h).1
 
-pub positive_from : (n : ℕ) → 1 ≤ n → n ≤ 1000000000 → is_in_range n ≡ true
-positive_from n h k = and_from _ _ (le-leb 1 n h) (le-leb n 1000000000 k)
+pub positive_from : (n : ℕ) → 1 ≤ n → n ≤ greatest_number → is_in_range n ≡ true
+positive_from n h k = and_from _ _ (le-leb 1 n h) (le-leb n greatest_number k)
 
 -- numbers in range have a sum
-pub sum_positive : (xs : List ℕ) → list_all is_in_range xs ≡ true → sum xs ≤ length xs * 1000000000
+pub sum_positive : (xs : List ℕ) → list_all is_in_range xs ≡ true → sum xs ≤ length xs * greatest_number
 sum_positive [] h = omega arith
 sum_positive (x ∷ xs) h =
     let parts = and_parts _ _ h in
@@ -56,7 +57,7 @@ cut_means n cost (Floating longest) h =
     let parts = both_hold _ _ _ h in
     (positive_low longest (holds_means _ _ parts.0), leb-true longest cost (holds_means _ _ parts.1))
 
-pub cut_passes : (n cost : ℕ) (cut : Cut) → cost ≤ 1000000000 → CutFits cost cut → cut_rule n cost cut ≡ Ok tt
+pub cut_passes : (n cost : ℕ) (cut : Cut) → cost ≤ greatest_number → CutFits cost cut → cut_rule n cost cut ≡ Ok tt
 cut_passes n cost Full h f = refl
 cut_passes n cost Never h f = refl
 cut_passes n cost (Fixed segments) h f = rw (f.0, eq-eqb (sum segments) cost f.1) refl
@@ -80,7 +81,7 @@ pub record TaskPasses (names : List (List ℕ)) (t : Task) : Type 0 where
   pub fresh : list_any (bytes_eq t.name) names ≡ false
   pub cost : is_in_range t.cost ≡ true
   pub deadline : is_in_range t.deadline ≡ true
-  pub priority : t.priority ≤ 1000000000
+  pub priority : t.priority ≤ greatest_number
   pub jitter : t.jitter ≤ most_jitter
   pub point : is_priority_point t.point ≡ true
   pub cut : CutFits t.cost t.cut
@@ -104,7 +105,7 @@ task_means n names t h =
       fresh = not_false _ (holds_means _ _ g.1);
       cost = holds_means _ _ f.1;
       deadline = holds_means _ _ e.1;
-      priority = leb-true t.priority 1000000000 (holds_means _ _ d.1);
+      priority = leb-true t.priority greatest_number (holds_means _ _ d.1);
       jitter = leb-true t.jitter most_jitter (holds_means _ _ c.1);
       point = holds_means _ _ b.1;
       cut = cut_means n t.cost t.cut a.1;
@@ -113,7 +114,7 @@ task_means n names t h =
 pub task_passes : (n : ℕ) (names : List (List ℕ)) (t : Task) → TaskPasses names t → task_rule n names t ≡ Ok tt
 unfolding task_rule
 task_passes n names t p =
-    let priority = le-leb t.priority 1000000000 p.priority in
+    let priority = le-leb t.priority greatest_number p.priority in
     let jitter = le-leb t.jitter most_jitter p.jitter in
     rw (p.name, p.fresh, p.cost, p.deadline, priority, jitter, p.point, cut_passes n t.cost t.cut (positive_high t.cost p.cost) p.cut) refl
 
@@ -172,7 +173,8 @@ fresh_from : (names : List (List ℕ)) (t : Task) (ts : List Task) → list_any 
 fresh_from names t ts first rest zero l = first
 fresh_from names t ts first rest (suc i) l = (fresh_before _ t.name names (rest.fresh i (omega arith))).0
 
-distinct_from : (names : List (List ℕ)) (t : Task) (ts : List Task) → TasksPass (names ++ t.name ∷ []) ts → (i k : ℕ) → i < k → k < length (t ∷ ts) → (get_or (t ∷ ts) i no_task).name ≢ (get_or (t ∷ ts) k no_task).name
+distinct_from : (names : List (List ℕ)) (t : Task) (ts : List Task) → TasksPass (names ++ t.name ∷ []) ts → (i k : ℕ) → i < k → k < length (t ∷ ts) →
+    (get_or (t ∷ ts) i no_task).name ≢ (get_or (t ∷ ts) k no_task).name
 distinct_from names t ts rest i zero l m = absurd (omega arith)
 distinct_from names t ts rest zero (suc k) l m = λ e. (fresh_before _ t.name names (rest.fresh k (omega arith))).1 (sym e)
 distinct_from names t ts rest (suc i) (suc k) l m = rest.distinct i k (omega arith) (omega arith)
@@ -205,7 +207,8 @@ tasks_pass n names (t ∷ ts) p =
     rw (first, rest) refl
 
 -- parts that keep the rules, with curves that are valid, are a valid sheet
-pub valid_from_rules : (p : PolicyKind) (s : SupplySpec) (ts : List Task) → ((i : ℕ) → i < length ts → IsCurve (get_or ts i no_task).curve) → supply_rule s ≡ Ok tt → 1 ≤ length ts → length ts ≤ 256 → tasks_rule 0 [] ts ≡ Ok tt →
+pub valid_from_rules : (p : PolicyKind) (s : SupplySpec) (ts : List Task) → ((i : ℕ) → i < length ts → IsCurve (get_or ts i no_task).curve) →
+    supply_rule s ≡ Ok tt → 1 ≤ length ts → length ts ≤ most_tasks → tasks_rule 0 [] ts ≡ Ok tt →
     IsValidSheet (parts_of p s ts)
 valid_from_rules p s ts curves supply some few tasks =
     let parts = tasks_mean 0 [] ts curves tasks in
@@ -218,4 +221,4 @@ pub rules_from_valid : (p : PolicyKind) (s : SupplySpec) (ts : List Task) → Is
 unfolding sheet_check_of
 rules_from_valid p s ts valid =
     let tasks : tasks_rule 0 [] ts ≡ Ok tt = tasks_from_valid _ valid in
-    rw (promise_passes s valid.supply, and_from _ _ (le-leb 1 (length ts) valid.some) (le-leb (length ts) 256 valid.few), tasks) refl
+    rw (promise_passes s valid.supply, and_from _ _ (le-leb 1 (length ts) valid.some) (le-leb (length ts) most_tasks valid.few), tasks) refl

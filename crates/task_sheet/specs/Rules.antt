@@ -1,5 +1,6 @@
 use Rattle.std.specs.Prelude.{ℕ, ℤ, pos, neg_ℤ, ◌+◌, ◌==◌, ◌&&◌, Bool, true, not, List, [], ◌∷◌, ◌++◌, length, nat_le, nat_lt, int_le, sum, Result, Ok, bytes_eq}
 use Rattle.std.specs.List.{list_all, list_any}
+use Rattle.lists.specs.Limits.{greatest_number, most_parts, most_tasks}
 use Rattle.lists.specs.Ranges.{is_between}
 use Rattle.task_sheet.specs.declared.tasks.PolicyKind.{PolicyKind}
 use Rattle.task_sheet.specs.declared.tasks.SupplySpec.{SupplySpec}
@@ -16,7 +17,7 @@ use Rattle.task_sheet.specs.Refusing.{◌>>=◌, holds}
 
 -- the greatest jitter of a task
 unfoldable pub most_jitter : ℕ
-most_jitter = 0
+most_jitter = greatest_number
 
 -- how far from 0 a priority point lies at most
 unfoldable pub most_point : ℕ
@@ -27,7 +28,7 @@ is_priority_point q = int_le (neg_ℤ (pos most_point)) q && int_le q (pos most_
 
 -- a number of a sheet that may not be 0
 abbrev pub is_in_range : ℕ → Bool
-is_in_range n = is_between 1 1000000000 n
+is_in_range n = is_between 1 greatest_number n
 
 -- 1 to 32 bytes, each printable and no space
 abbrev pub is_name : List ℕ → Bool
@@ -53,7 +54,7 @@ are_times horizon times = rise_above 0 times && nat_le (last_number 0 times) hor
 abbrev pub promise_rule : ℕ → List ℕ → Result (Unit {0}) SheetRefusal
 promise_rule horizon times =
     holds (is_in_range horizon) (Range places.Supply fields.Horizon)
-    >>= (λ _. holds (are_in_range 1000 times) (Range places.Supply fields.Times))
+    >>= (λ _. holds (are_in_range most_parts times) (Range places.Supply fields.Times))
     >>= (λ _. holds (are_times horizon times) (Order places.Supply fields.Times))
 
 abbrev pub supply_rule : SupplySpec → Result (Unit {0}) SheetRefusal
@@ -62,7 +63,7 @@ supply_rule (Promised horizon times) = promise_rule horizon times
 
 abbrev pub segments_rule : ℕ → ℕ → List ℕ → Result (Unit {0}) SheetRefusal
 segments_rule n cost segments =
-    holds (are_in_range 1000 segments) (Range (places.Task n) fields.Preemption)
+    holds (are_in_range most_parts segments) (Range (places.Task n) fields.Preemption)
     >>= (λ _. holds (sum segments == cost) (Sum n))
 
 -- how the preemption of task n fits its cost
@@ -81,7 +82,7 @@ task_rule n names task =
     >>= (λ _. holds (not (list_any (bytes_eq task.name) names)) (Twice n))
     >>= (λ _. holds (is_in_range task.cost) (Range (places.Task n) fields.Cost))
     >>= (λ _. holds (is_in_range task.deadline) (Range (places.Task n) fields.Deadline))
-    >>= (λ _. holds (nat_le task.priority 1000000000) (Range (places.Task n) fields.Priority))
+    >>= (λ _. holds (nat_le task.priority greatest_number) (Range (places.Task n) fields.Priority))
     >>= (λ _. holds (nat_le task.jitter most_jitter) (Range (places.Task n) fields.Jitter))
     >>= (λ _. holds (is_priority_point task.point) (Range (places.Task n) fields.Point))
     >>= (λ _. cut_rule n task.cost task.cut)
@@ -95,6 +96,6 @@ tasks_rule n names (task ∷ tasks) = task_rule n names task >>= (λ _. tasks_ru
 unfoldable pub sheet_check_of : PolicyKind → SupplySpec → List Task → Result SheetParts SheetRefusal
 sheet_check_of policy supply tasks =
     supply_rule supply
-    >>= (λ _. holds (is_between 1 256 (length tasks)) (Range places.Top fields.Task))
+    >>= (λ _. holds (is_between 1 most_tasks (length tasks)) (Range places.Top fields.Task))
     >>= (λ _. tasks_rule 0 [] tasks)
     >>= (λ _. Ok (record { policy = policy; supply = supply; tasks = tasks }))

@@ -1,4 +1,5 @@
 use Rattle.std.specs.Prelude.{◌≡◌, ◌≢◌, ℕ, pos, ◌+◌, ◌≤◌, ◌<◌, true, List, [], length, sum, slice_index_or}
+use Rattle.lists.specs.Limits.{greatest_number, most_parts, most_tasks}
 use Rattle.curve.specs.Validity.{IsCurve}
 use Rattle.task_sheet.specs.declared.tasks.PolicyKind.{PolicyKind}
 use Rattle.task_sheet.specs.declared.tasks.SupplySpec.{SupplySpec}
@@ -24,22 +25,22 @@ task_at sheet i = slice_index_or sheet.tasks i no_task
 abbrev pub CutFits : ℕ → Cut → Type 0
 CutFits cost Full = Unit {0}
 CutFits cost Never = Unit {0}
-CutFits cost (Fixed segments) = (are_in_range 1000 segments ≡ true) × (sum segments ≡ cost)
+CutFits cost (Fixed segments) = (are_in_range most_parts segments ≡ true) × (sum segments ≡ cost)
 CutFits cost (Floating longest) = (1 ≤ longest) × (longest ≤ cost)
 
 -- a promise of supply
 abbrev pub IsPromise : SupplySpec → Type 0
 IsPromise Whole = Unit {0}
-IsPromise (Promised horizon times) = (1 ≤ horizon) × (horizon ≤ 1000000000) × (are_in_range 1000 times ≡ true) × (are_times horizon times ≡ true)
+IsPromise (Promised horizon times) = (1 ≤ horizon) × (horizon ≤ greatest_number) × (are_in_range most_parts times ≡ true) × (are_times horizon times ≡ true)
 
 -- a valid task
 pub record IsTask (t : Task) : Type 0 where
   pub name : is_name t.name ≡ true
   pub cost_low : 1 ≤ t.cost
-  pub cost_high : t.cost ≤ 1000000000
+  pub cost_high : t.cost ≤ greatest_number
   pub deadline_low : 1 ≤ t.deadline
-  pub deadline_high : t.deadline ≤ 1000000000
-  pub priority_high : t.priority ≤ 1000000000
+  pub deadline_high : t.deadline ≤ greatest_number
+  pub priority_high : t.priority ≤ greatest_number
   pub jitter_high : t.jitter ≤ most_jitter
   pub point : is_priority_point t.point ≡ true
   pub curve : IsCurve t.curve
@@ -49,7 +50,7 @@ pub record IsTask (t : Task) : Type 0 where
 pub record IsValidSheet (s : SheetParts) : Type 0 where
   pub supply : IsPromise s.supply
   pub some : 1 ≤ length s.tasks
-  pub few : length s.tasks ≤ 256
+  pub few : length s.tasks ≤ most_tasks
   pub each : (i : ℕ) → i < length s.tasks → IsTask (task_at s i)
   pub distinct : (i k : ℕ) → i < k → k < length s.tasks → (task_at s i).name ≢ (task_at s k).name
 

@@ -1,5 +1,6 @@
 //! The rules that the parts of a sheet have to keep.
 ghost use Rattle.std.specs.Prelude.{◌≡◌, ◌==◌, ◌<◌, ◌≤◌, ◌^◌, ℕ, [], length, map, take, sum, bytes_eq, OnOk, slice_index_or};
+ghost use Rattle.lists.specs.Limits.{most_parts, most_tasks};
 ghost use Rattle.curve.specs.Validity.{IsCurve};
 ghost use Rattle.task_sheet.specs.Sheets.{no_task};
 ghost use Rattle.std.specs.List.{list_all, list_any};
@@ -9,17 +10,17 @@ ghost use Rattle.task_sheet.specs.Refusing.{holds as holds_of};
 
 use crate::refusal::{Field, Place, SheetRefusal};
 use crate::tasks::{Cut, SupplySpec, Task};
+use lists::limits::{GREATEST_NUMBER, MOST_PARTS};
 
-const GREATEST: u64 = 1_000_000_000;
 /// The greatest jitter of a task.
-pub const MOST_JITTER: u64 = 0;
+pub const MOST_JITTER: u64 = GREATEST_NUMBER;
 /// How far from 0 a priority point lies at most.
 pub const MOST_POINT: i64 = 0;
 
 fn is_in_range(n: u64) -> bool
     ensures { result ≡ is_in_range_of n }
 {
-    1 <= n && n <= GREATEST
+    1 <= n && n <= GREATEST_NUMBER
 }
 
 fn all_in_range(numbers: &[u64]) -> bool
@@ -35,9 +36,9 @@ fn all_in_range(numbers: &[u64]) -> bool
 
 /// 1 to 1,000 numbers, each in range.
 fn are_in_range(numbers: &[u64]) -> bool
-    ensures { result ≡ are_in_range_of 1000 numbers.now }
+    ensures { result ≡ are_in_range_of most_parts numbers.now }
 {
-    1 <= numbers.len() && numbers.len() <= 1000 && all_in_range(numbers)
+    1 <= numbers.len() && numbers.len() <= MOST_PARTS && all_in_range(numbers)
 }
 
 fn all_printable(bytes: &[u8]) -> bool
@@ -212,7 +213,7 @@ fn check_task(n: u32, earlier: &[Task], task: &Task) -> Result<(), SheetRefusal>
         },
     )?;
     holds(
-        task.priority <= GREATEST,
+        task.priority <= GREATEST_NUMBER,
         SheetRefusal::Range {
             place,
             field: Field::Priority,
@@ -236,9 +237,10 @@ fn check_task(n: u32, earlier: &[Task], task: &Task) -> Result<(), SheetRefusal>
 }
 
 pub fn check_tasks(tasks: &[Task]) -> Result<(), SheetRefusal>
-    requires { length tasks.now ≤ 256 }
+    requires { length tasks.now ≤ most_tasks }
     ensures rule { result ≡ tasks_rule 0 [] tasks.now }
-    ensures curves { OnOk result ((i : ℕ) → i < length tasks.now → IsCurve (slice_index_or tasks.now i no_task).curve) }
+    ensures curves { OnOk result ((i : ℕ) → i < length tasks.now →
+        IsCurve (slice_index_or tasks.now i no_task).curve) }
 {
     for i in 0..tasks.len() {
         check_task(i as u32, &tasks[..i], &tasks[i])?;

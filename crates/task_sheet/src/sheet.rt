@@ -1,5 +1,6 @@
 //! A valid sheet.
 ghost use Rattle.std.specs.Prelude.{◌≡◌, ◌<◌, ◌≤◌, ◌↔◌, length, IfOk, IsOk};
+ghost use Rattle.lists.specs.Limits.{greatest_number, most_tasks};
 ghost use Rattle.task_sheet.specs.Rules.{sheet_check_of};
 ghost use Rattle.task_sheet.specs.Sheets.{parts_of, task_at, IsValidSheet};
 
@@ -7,6 +8,7 @@ use crate::checking::{check_supply, check_tasks};
 use crate::refusal::{Field, Place, SheetRefusal};
 use crate::tasks::{PolicyKind, SupplySpec, Task};
 use lists::Items;
+use lists::limits::MOST_TASKS;
 use std::marker::Model;
 
 /// A valid sheet: a policy, a supply, and 1 to 256 tasks.
@@ -26,7 +28,11 @@ impl Model for Sheet {
 
     ghost view = { λ s. record { policy = s.policy; supply = s.supply; tasks = s.tasks } };
 
-    ghost invariant = { λ s. IsValidSheet (record { policy = s.policy; supply = s.supply; tasks = s.tasks }) };
+    ghost invariant = { λ s. IsValidSheet (record {
+      policy = s.policy;
+      supply = s.supply;
+      tasks = s.tasks;
+    }) };
 }
 
 impl Sheet {
@@ -42,7 +48,7 @@ impl Sheet {
     {
         check_supply(&supply)?;
         let count = tasks.as_slice().len();
-        if count == 0 || count > 256 {
+        if count == 0 || count > MOST_TASKS {
             return Err(SheetRefusal::Range {
                 place: Place::Top,
                 field: Field::Task,
@@ -90,7 +96,7 @@ impl Sheet {
     pub fn task(&self, i: u32) -> &Task
         requires { i < length self.now.tasks }
         ensures task { result.now ≡ task_at self.now i }
-        ensures jitter { result.now.jitter ≤ 1000000000 }
+        ensures jitter { result.now.jitter ≤ greatest_number }
         ensures valid { IsValidSheet self.now }
     {
         &self.tasks.as_slice()[i as usize]

@@ -5,7 +5,7 @@ use std::test::Fail;
 use task_sheet::{Field, Place, SheetRefusal};
 
 /// Texts with the first rule that each breaks.
-const REFUSED: [(&[u8], SheetRefusal); 12] = [
+const REFUSED: [(&[u8], SheetRefusal); 17] = [
     (
         b"",
         SheetRefusal::Missing {
@@ -59,6 +59,41 @@ const REFUSED: [(&[u8], SheetRefusal); 12] = [
         SheetRefusal::Text,
     ),
     (
+        b"policy = \"edf\"\n[[task]]\nname = \"a\"\ncost = 2\ndeadline = 9\njitter = -1\n",
+        SheetRefusal::Range {
+            place: Place::Task(0),
+            field: Field::Jitter,
+        },
+    ),
+    (
+        b"policy = \"edf\"\n[[task]]\nname = \"a\"\ncost = 2\ndeadline = 9\njitter = 1000000001\n",
+        SheetRefusal::Range {
+            place: Place::Task(0),
+            field: Field::Jitter,
+        },
+    ),
+    (
+        b"policy = \"edf\"\n[[task]]\nname = \"a\"\ncost = 2\ndeadline = 9\njitter = 3.0\n",
+        SheetRefusal::Kind {
+            place: Place::Task(0),
+            field: Field::Jitter,
+        },
+    ),
+    (
+        b"policy = \"edf\"\n[[task]]\njitter = -1\npriority = -1\nname = \"a\"\ncost = 2\ndeadline = 9\n",
+        SheetRefusal::Range {
+            place: Place::Task(0),
+            field: Field::Priority,
+        },
+    ),
+    (
+        b"policy = \"edf\"\n[[task]]\nname = \"a\"\ncost = 2\ndeadline = 9\njitter = 1000000000\n",
+        SheetRefusal::Missing {
+            place: Place::Task(0),
+            field: Field::Curve,
+        },
+    ),
+    (
         b"policy = \"edf\"\n[[task]]\nname = \"a\"\ncost = 2\ndeadline = 9\n\
         curve = { horizon = 5, steps = [[0, 1]] }\n",
         SheetRefusal::Range {
@@ -97,9 +132,9 @@ const FIRST_PRINTED: &[u8] = b"policy = \"fp\"\n
 
 const EVERY_FORM: &[u8] = b"policy = \"edf\"\n
 [supply]\nhorizon = 4\ntimes = [3, 4]\n
-[[task]]\ncost = 3\ndeadline = 9\nname = \"x'y\"\npreemption = \"never\"\npriority = 0\n
+[[task]]\ncost = 3\ndeadline = 9\njitter = 1000000000\nname = \"x'y\"\npreemption = \"never\"\npriority = 0\n
 [task.curve]\nhorizon = 50\nsteps = [[1, 2], [25, 4]]\n
-[[task]]\ncost = 3\ndeadline = 9\nname = \"y\"\npriority = 0\n
+[[task]]\ncost = 3\ndeadline = 9\njitter = 1\nname = \"y\"\npriority = 0\n
 [task.curve]\nhorizon = 9\nsteps = [[1, 1]]\n
 [task.preemption]\nfixed = [1, 2]\n
 [[task]]\ncost = 3\ndeadline = 9\nname = \"z\"\npriority = 1000000000\n
@@ -179,5 +214,8 @@ fn prints_every_form(rt: HostRuntime) -> Result<(), Fail> {
     let sheet = read_sheet(rt.alloc(), EVERY_FORM)?;
     let text = print_sheet(rt.alloc(), &sheet)?;
     assert_eq!(rt; text.as_slice(), EVERY_FORM);
+    assert_eq!(rt; sheet.len(), 3);
+    assert_eq!(rt; sheet.task(0).jitter, 1_000_000_000);
+    assert_eq!(rt; sheet.task(2).jitter, 0);
     Ok(())
 }

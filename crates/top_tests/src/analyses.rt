@@ -1,7 +1,7 @@
 //! Rows of `analyse`.
 use super::cases::{Case, assert_cases};
-use super::files::*;
 use std::test::Fail;
+use top_cases::files::*;
 
 const BEST_CERTIFICATES: [Case; 12] = [
     Case {

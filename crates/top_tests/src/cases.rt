@@ -3,61 +3,7 @@ use poet_cli::poet_run;
 use poet_io::{MemShelf, MemSink};
 use std::alloc::{AllocError, Global};
 use std::process::Abort;
-
-/// Words over the files `s` and `c`, and what the program says to them.
-pub struct Case {
-    /// The words, with a space between each two.
-    pub words: &'static str,
-    /// The file `s`.
-    pub sheet: &'static str,
-    /// The file `c`.
-    pub other: &'static str,
-    pub status: u8,
-    pub out: &'static str,
-    pub err: &'static str,
-}
-
-/// The words of a line, with a space between each two.
-pub fn words_of(alloc: Global, line: &str) -> Result<Vec<String>, AllocError> {
-    let mut words = Vec::new(alloc);
-    for word in line.split(' ') {
-        words.push(String::from_str(alloc, word)?)?;
-    }
-    Ok(words)
-}
-
-/// The files `s` and `c`.
-pub fn files_of(
-    alloc: Global,
-    sheet: &[u8],
-    other: &[u8],
-) -> Result<Vec<(String, Vec<u8>)>, AllocError> {
-    let mut files = Vec::new(alloc);
-    files.push((
-        String::from_str(alloc, "s")?,
-        Vec::from_slice(alloc, sheet)?,
-    ))?;
-    files.push((
-        String::from_str(alloc, "c")?,
-        Vec::from_slice(alloc, other)?,
-    ))?;
-    Ok(files)
-}
-
-/// A shelf with the files `s` and `c`, whose calls with the numbers in `fails` are faults.
-pub fn shelf_of(
-    alloc: Global,
-    sheet: &[u8],
-    other: &[u8],
-    fails: Vec<u64>,
-) -> Result<MemShelf, AllocError> {
-    Ok(MemShelf::new(files_of(alloc, sheet, other)?, fails))
-}
-
-/// A sink of so many bytes, with no fault.
-pub fn sink_of(alloc: Global, room: usize) -> Result<MemSink, AllocError> {
-    MemSink::new(alloc, Vec::new(alloc), 4096, room)
-}
+pub use top_cases::{Case, shelf_of, sink_of, words_of};
 
 /// Runs the program, and compares its status and its texts.
 pub fn assert_said(

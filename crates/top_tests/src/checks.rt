@@ -1,7 +1,7 @@
 //! Rows of `check`.
 use super::cases::{Case, assert_cases};
-use super::files::*;
 use std::test::Fail;
+use top_cases::files::*;
 
 const WORKED_EXAMPLES: [Case; 14] = [
     Case {

@@ -1,7 +1,7 @@
 //! Rows of `simulate`, `audit`, `report` and `exercise`.
 use super::cases::{Case, assert_cases};
-use super::files::*;
 use std::test::Fail;
+use top_cases::files::*;
 
 const SIMULATED_RUNS: [Case; 9] = [
     Case {
@@ -25,7 +25,7 @@ const SIMULATED_RUNS: [Case; 9] = [
         sheet: NEVER_PREEMPTED,
         other: "",
         status: 0,
-        out: "poet-run 1\njobs 8 ticks 20\nj 0 0 1\nj 1 1 1\nj 0 4 1\nj 0 8 1\nj 1 8 1\nj 0 15 1\nj 1 15 1\nj 0 19 1\nrun 0 1\nrun 1 1\nidle 2\nrun 2 1\nidle 3\nrun 3 1\nrun 4 1\nidle 5\nrun 5 1\nrun 6 1\nidle 2\nrun 7 1\nend\n",
+        out: "poet-run 2\njobs 8 ticks 20\nj 0 0 0 1\nj 1 1 1 1\nj 0 4 4 1\nj 0 8 8 1\nj 1 8 8 1\nj 0 15 15 1\nj 1 15 15 1\nj 0 19 19 1\nrun 0 1\nrun 1 1\nidle 2\nrun 2 1\nidle 3\nrun 3 1\nrun 4 1\nidle 5\nrun 5 1\nrun 6 1\nidle 2\nrun 7 1\nend\n",
         err: "",
     },
     Case {
@@ -33,7 +33,7 @@ const SIMULATED_RUNS: [Case; 9] = [
         sheet: PROMISED,
         other: "",
         status: 0,
-        out: "poet-run 1\njobs 1 ticks 8\nj 0 0 2\noff 2\nrun 0 2\noff 2\nidle 2\nend\n",
+        out: "poet-run 2\njobs 1 ticks 8\nj 0 0 0 2\noff 2\nrun 0 2\noff 2\nidle 2\nend\n",
         err: "",
     },
     Case {
@@ -41,7 +41,7 @@ const SIMULATED_RUNS: [Case; 9] = [
         sheet: FIXED_SEGMENTS,
         other: "",
         status: 0,
-        out: "poet-run 1\njobs 1 ticks 6\nj 0 0 5 2 3\nrun 0 5\nidle 1\nend\n",
+        out: "poet-run 2\njobs 1 ticks 6\nj 0 0 0 5 2 3\nrun 0 5\nidle 1\nend\n",
         err: "",
     },
     Case {
@@ -49,7 +49,7 @@ const SIMULATED_RUNS: [Case; 9] = [
         sheet: FLOATING_SEGMENTS,
         other: "",
         status: 0,
-        out: "poet-run 1\njobs 1 ticks 6\nj 0 0 5 2 2 1\nrun 0 5\nidle 1\nend\n",
+        out: "poet-run 2\njobs 1 ticks 6\nj 0 0 0 5 2 2 1\nrun 0 5\nidle 1\nend\n",
         err: "",
     },
     Case {

@@ -1,10 +1,10 @@
 //! Words outside the grammar.
 use super::cases::{assert_said, shelf_of, sink_of, words_of};
-use super::files::{ONE_TASK, USAGE};
 use poet_io::MemSink;
 use std::alloc::{AllocError, Global};
 use std::process::Abort;
 use std::test::Fail;
+use top_cases::files::{ONE_TASK, USAGE};
 
 const UNREAD: [&str; 19] = [
     "check",

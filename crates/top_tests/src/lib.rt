@@ -11,12 +11,8 @@ mod checks;
 #[cfg(test)]
 mod commands;
 #[cfg(test)]
-mod failing;
-#[cfg(test)]
-mod files;
-#[cfg(test)]
 mod grammar;
 #[cfg(test)]
-mod large;
+mod jitters;
 #[cfg(test)]
 mod whole;

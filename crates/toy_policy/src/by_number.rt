@@ -1,4 +1,5 @@
 //! Numbers.
+ghost use Rattle.std.specs.Prelude.{codes};
 ghost use Rattle.toy_policy.specs.Numbered.{by_number_meaning};
 ghost use Rattle.toy_policy.specs.Lawful.{by_number_lawful};
 
@@ -12,9 +13,15 @@ pub struct ByNumber;
 impl Policy for ByNumber {
     const NAME: &'static str = "by-number";
 
+    ghost word = { codes "by-number" };
+
     ghost meaning = { by_number_meaning };
 
     ghost lawful = { by_number_lawful };
+
+    fn word() -> &'static str {
+        Self::NAME
+    }
 
     fn key(_sheet: &Sheet, job: &Job) -> Key {
         Key {

@@ -1,4 +1,5 @@
 //! Cuts at even services.
+ghost use Rattle.std.specs.Prelude.{codes};
 ghost use Rattle.toy_policy.specs.EvenCuts.{even_meaning};
 ghost use Rattle.toy_policy.specs.EvenLawful.{even_lawful};
 
@@ -12,9 +13,15 @@ pub struct EvenCut;
 impl Preemption for EvenCut {
     const NAME: &'static str = "even";
 
+    ghost word = { codes "even" };
+
     ghost cuts = { even_meaning };
 
     ghost lawful = { λ task ok _. even_lawful task ok };
+
+    fn word() -> &'static str {
+        Self::NAME
+    }
 
     fn cuttable(_task: &Task, job: &Job, s: u64) -> bool {
         s % 2 == 0 || job.cost <= s

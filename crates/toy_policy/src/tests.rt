@@ -7,6 +7,7 @@ use crate::ByNumber;
 use cert_check::{Verdict, check_cert};
 use curve::Prefix;
 use lists::{Items, Text};
+use meter::Meter;
 use policy::Policy;
 use preemption::{FullCut, PerTask};
 use std::alloc::Global;
@@ -68,6 +69,27 @@ fn accepted(rt: HostRuntime) -> Result<(), Fail> {
     if is_full(&sheet) {
         let full = check_cert::<ByNumber, FullCut, Unit>(alloc, &sheet, &Unit, true, CERT)?;
         assert_eq!(rt; full, wanted);
+    }
+    Ok(())
+}
+
+#[test]
+fn metered(rt: HostRuntime) -> Result<(), Fail> {
+    let alloc = rt.alloc();
+    let sheet = make_sheet(alloc)?;
+    assert_eq!(rt; sheet.len(), 2);
+    if sheet.len() == 2 {
+        let mut meter = Meter::<ByNumber, PerTask>::new(alloc, &sheet)?;
+        assert_eq!(rt; meter.need(), 1);
+        // Of `b` only its own jobs tell offsets apart, and all of `a` count.
+        meter.open(1);
+        assert_eq!(rt; meter.next_point(100), Some(6));
+        meter.move_to(0, 3);
+        assert_eq!(rt; meter.need(), 3);
+        meter.move_to(6, 5);
+        assert_eq!(rt; meter.need(), 6);
+        meter.move_to(6, 4);
+        assert_eq!(rt; meter.need(), 5);
     }
     Ok(())
 }

@@ -6,12 +6,8 @@ use Rattle.std.proofs.lemmas.List.{take_all, take-take}
 use Rattle.std.proofs.lemmas.List.Sums.{sum_by-take-le, sum_by_push}
 use Rattle.std.proofs.lemmas.List.Sorted.{sum_by-IsPermutation}
 use Rattle.std.specs.List.Sorted.{IsPermutation}
-use Rattle.lists.proofs.SumFacts.{count_more}
+use Rattle.lists.proofs.SumFacts.{at_most_one, count_more}
 use Rattle.windows.specs.Arrivals.{arrived_in}
-
-bit_le : (b : Bool) → cond {A = ℕ} b 1 0 ≤ 1
-bit_le true = omega arith
-bit_le false = omega arith
 
 zero_count : (p : ℕ → Bool) (xs : List ℕ) → count_by p (take 0 xs) ≡ 0
 zero_count p xs = refl
@@ -31,7 +27,7 @@ at_most : (p : ℕ → Bool) (xs : List ℕ) (i n : ℕ) → n ≤ length xs →
 at_most p xs i zero h e = omega (arith, zero_count p xs)
 at_most p xs i (suc n) h e = elim (cases_lt n i) [
   | inl c ↦ omega (arith, at_most p xs i n (omega arith) (λ k a b. e k a (omega arith)), count_more p xs 0 n (omega arith), ap (λ (b : Bool). cond {A = ℕ} b 1 0) (e n c (omega arith)))
-  | inr c ↦ omega (arith, at_most p xs i n (omega arith) (λ k a b. e k a (omega arith)), count_more p xs 0 n (omega arith), bit_le (p (get_or xs n 0)))
+  | inr c ↦ omega (arith, at_most p xs i n (omega arith) (λ k a b. e k a (omega arith)), count_more p xs 0 n (omega arith), at_most_one (p (get_or xs n 0)))
 ]
 
 take_le : (p : ℕ → Bool) (xs : List ℕ) (n m : ℕ) → n ≤ m → count_by p (take n xs) ≤ count_by p (take m xs)
@@ -47,7 +43,7 @@ none_after p xs m (suc n) h e = elim (cases_lt n m) [
 ]
 
 in_two : (b c d : Bool) → (b ≡ true → (c ≡ true) ⊎ (d ≡ true)) → cond {A = ℕ} b 1 0 ≤ cond {A = ℕ} c 1 0 + cond {A = ℕ} d 1 0
-in_two true true d h = omega (arith, bit_le d)
+in_two true true d h = omega (arith, at_most_one d)
 in_two true false true h = omega arith
 in_two true false false h = elim (h refl) [ inl e ↦ absurd (cc) | inr e ↦ absurd (cc) ]
 in_two false c d h = omega arith

@@ -4,6 +4,7 @@ use Rattle.std.specs.List.Sorted.{IsPermutation, IsNonDecreasing}
 use Rattle.std.proofs.lemmas.Bool.{cases_lt, cases_Bool}
 use Rattle.std.proofs.lemmas.Bool.Decides.{nat_tests}
 use Rattle.std.proofs.lemmas.List.Sums.{sum_by-cons}
+use Rattle.lists.specs.Limits.{greatest_number}
 use Rattle.lists.specs.Searches.{IsFirstBelow}
 use Rattle.curve.specs.Curves.{alpha_of}
 use Rattle.task_sheet.specs.declared.tasks.Job.{Job}
@@ -72,7 +73,7 @@ module _ (run : Run) (o : ℕ) (xs : List ℕ) (are : AreArrivals run o xs) wher
         ))
   ]
 
-  pub arrivals_early : AreEarly run → (i : ℕ) → i < length xs → get_or xs i 0 ≤ 1000000000
+  pub arrivals_early : AreEarly run → (i : ℕ) → i < length xs → get_or xs i 0 ≤ greatest_number
   arrivals_early early i b = let k = arrival_job i b in omega (arith, early k.0 k.1, k.2.arrival)
 
   module _ (sheet : SheetParts) where

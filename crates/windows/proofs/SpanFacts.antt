@@ -2,6 +2,7 @@
 use Rattle.std.proofs.Common.{◌≡◌, ℕ, ◌+◌, ◌<◌, ◌≤◌, Option, Some, None, sym, subst, inl, inr, arith}
 use Rattle.std.specs.Prelude.{unwrap_or}
 use Rattle.std.proofs.lemmas.Bool.{cases_lt}
+use Rattle.lists.specs.Limits.{greatest_length}
 use Rattle.lists.specs.Searches.{IsLeastTo}
 use Rattle.curve.specs.CurveValue.{Curve}
 use Rattle.curve.specs.Curves.{alpha_of, IsRise}
@@ -21,7 +22,7 @@ module _ (c : Curve) (ok : IsCurve c) (n d : ℕ) (span : IsSpan c n d) where
   }
 
   -- it does not, and the curve rises next at e
-  span_rises : (r : Option ℕ) → alpha_of c d ≤ n → IsLeastTo (IsRise c d) 4000000000 r →
+  span_rises : (r : Option ℕ) → alpha_of c d ≤ n → IsLeastTo (IsRise c d) greatest_length r →
       IsSpan c (n + 1) (unwrap_or r 18446744073709551615)
   span_rises None few none = record {
     admits = λ e h l. absurd (omega arith);
@@ -39,5 +40,5 @@ module _ (c : Curve) (ok : IsCurve c) (n d : ℕ) (span : IsSpan c n d) where
   }
 
   pub span_next : (r : Option ℕ) (e : ℕ) → e ≡ unwrap_or r 18446744073709551615 → alpha_of c d ≤ n →
-      IsLeastTo (IsRise c d) 4000000000 r → IsSpan c (n + 1) e
+      IsLeastTo (IsRise c d) greatest_length r → IsSpan c (n + 1) e
   span_next r e is few rises = subst (IsSpan c (n + 1)) (sym is) (span_rises r few rises)

@@ -5,8 +5,8 @@ use Rattle.std.proofs.Math.Nat.{add-mod_right, add-div_right, div_self, mod_self
 use Rattle.curve.specs.declared.prefix.Step.{Step}
 use Rattle.curve.specs.CurveValue.{Curve}
 use Rattle.curve.specs.Curves.{last_value, value_of, alpha_of}
-use Rattle.curve.specs.Validity.{StartsAtOne, RiseFrom, IsCurve}
-use Rattle.curve.proofs.CurveFacts.{last_value_early}
+use Rattle.curve.specs.Validity.{IsCurve}
+use Rattle.curve.proofs.CurveFacts.{StartsAtOne, RiseFrom, first_at_one, rising_from, last_value_early}
 use Rattle.curve.proofs.RiseFacts.{alpha_at}
 use Rattle.windows.specs.Steps.{step_at, IsLastStep}
 
@@ -33,7 +33,7 @@ pub alpha_is : (c : Curve) → IsCurve c → (d i : ℕ) → d ≤ c.horizon →
 unfolding value_of
 alpha_is c ok d i h at =
     let zero_horizons : 0 * c.horizon + d ≡ d = omega arith in
-    omega (arith, ap (alpha_of c) zero_horizons, alpha_at c ok 0 d h, last_value_at c.steps 0 0 0 d i ok.rising at.listed at.begun (λ l. rw add-one at (at.last (omega arith))))
+    omega (arith, ap (alpha_of c) zero_horizons, alpha_at c ok 0 d h, last_value_at c.steps 0 0 0 d i (rising_from c ok) at.listed at.begun (λ l. rw add-one at (at.last (omega arith))))
 
 -- one more horizon
 pub alpha_more : (c : Curve) → IsCurve c → (d : ℕ) → alpha_of c (d + c.horizon) ≡ alpha_of c d + alpha_of c c.horizon
@@ -44,7 +44,7 @@ alpha_more c ok d =
     let r : (d + c.horizon) % c.horizon ≡ d % c.horizon = add-mod_right d c.horizon in
     let one : c.horizon / c.horizon ≡ 1 = div_self p in
     let none : c.horizon % c.horizon ≡ 0 = mod_self c.horizon in
-    let early : last_value 0 c.steps 0 ≡ 0 = last_value_early c.steps 0 0 0 0 ok.rising (omega arith) in
+    let early : last_value 0 c.steps 0 ≡ 0 = last_value_early c.steps 0 0 0 0 (rising_from c ok) (omega arith) in
     omega (
       arith,
       ap (λ (w : ℕ). w * last_value 0 c.steps c.horizon) q,
@@ -66,4 +66,4 @@ first_of_steps (s ∷ []) first rise = record { listed = omega arith; time = fir
 first_of_steps (s ∷ (n ∷ steps)) first rise = record { listed = omega arith; time = first; last = record { listed = omega arith; begun = omega (arith, first); last = λ l. rw add-one (omega (arith, first, rise.2.0)) } }
 
 pub first_step : (c : Curve) → IsCurve c → IsFirstStep c.steps
-first_step c ok = first_of_steps c.steps ok.first ok.rising
+first_step c ok = first_of_steps c.steps (first_at_one c ok) (rising_from c ok)

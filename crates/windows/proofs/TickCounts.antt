@@ -5,18 +5,10 @@ use Rattle.std.proofs.lemmas.List.{length-append, get_or_append_left, get_or-app
 use Rattle.run_model.specs.declared.run.Run.{Run}
 use Rattle.run_model.specs.declared.run.Tick.{Tick}
 use Rattle.run_model.specs.Runs.{tick_at, is_on, ticks_in}
-use Rattle.run_model.proofs.ServiceFacts.{ticks_in_none, ticks_in_more}
+use Rattle.run_model.proofs.ServiceFacts.{ticks_in_none, ticks_in_more, ticks_in_split}
 use Rattle.schedule_laws.specs.Tests.{is_short}
 use Rattle.schedule_laws.proofs.TestFacts.{short_from, short_to}
 use Rattle.windows.specs.Supplied.{AreCounts, ArePromised, MayBeOff}
-
--- the ticks before s + d, in two parts
-pub ticks_in_split : (test : Tick → Bool) (run : Run) (s d : ℕ) → s + d ≤ length run.ticks →
-    ticks_in test run 0 (s + d) ≡ ticks_in test run 0 s + ticks_in test run s d
-ticks_in_split test run s zero h = rw add-zero (omega (arith, ticks_in_none test run s))
-ticks_in_split test run s (suc d) h =
-    let e : 0 + (s + d) ≡ s + d = omega arith in
-    rw add-suc (omega (arith, ticks_in_split test run s d (omega arith), ticks_in_more test run 0 (s + d) (omega arith), ticks_in_more test run s d (omega arith), ap (λ (w : ℕ). cond {A = ℕ} (test (tick_at run w)) 1 0) e))
 
 pub counts_start : (run : Run) (counts : List ℕ) → counts ≡ 0 ∷ [] → AreCounts run counts 0
 counts_start run counts e = record {

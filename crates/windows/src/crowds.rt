@@ -1,6 +1,7 @@
 //! The first job with which more have arrived than a curve says.
 ghost use Rattle.std.specs.Prelude.{◌≡◌, ◌≤◌, ◌<◌, ◌+◌, ◌↔◌, ℕ, length, IsTrue, IfOk, IfSome, slice_index};
 ghost use Rattle.std.specs.List.Sorted.{IsNonDecreasing};
+ghost use Rattle.lists.specs.Limits.{most_jobs, greatest_number};
 ghost use Rattle.curve.specs.Validity.{IsCurve};
 ghost use Rattle.lists.specs.Searches.{IsFirstBelow};
 ghost use Rattle.schedule_laws.specs.Tests.{AreOf, AreEarly};
@@ -16,7 +17,7 @@ use task_sheet::Sheet;
 ///
 /// It looks at the windows that begin and end with an arrival of one task.
 pub fn first_crowded(alloc: Global, sheet: &Sheet, run: &Run) -> Result<Option<u32>, AllocError>
-    requires few { length run.now.jobs ≤ 20000 }
+    requires few { length run.now.jobs ≤ most_jobs }
     requires tasks { AreOf sheet.now run.now }
     requires arrivals { AreEarly run.now }
     ensures { IfOk result (IsFirstCrowded sheet.now run.now) }
@@ -36,7 +37,7 @@ fn first_crowded_of(
     run: &Run,
     o: u32,
 ) -> Result<Option<u32>, AllocError>
-    requires few { length run.now.jobs ≤ 20000 }
+    requires few { length run.now.jobs ≤ most_jobs }
     requires task { o < length sheet.now.tasks }
     requires arrivals { AreEarly run.now }
     ensures { IfOk result (IsFirstJob (IsCrowdedOf sheet.now run.now o) run.now) }
@@ -81,7 +82,7 @@ fn earlier(run: &Run, a: Option<u32>, b: Option<u32>) -> Option<u32>
 
 /// The least job of task `o` that arrives at `tick`.
 fn first_at(run: &Run, o: u32, tick: u64) -> Option<u32>
-    requires few { length run.now.jobs ≤ 20000 }
+    requires few { length run.now.jobs ≤ most_jobs }
     ensures { IsFirstBelow (ArrivesAt run.now o tick) (length run.now.jobs) result }
 {
     for k in 0..run.jobs.len() as u32 {
@@ -123,7 +124,7 @@ fn first_crowded_tick(
     requires curve { IsCurve curve.now }
     requires ascending { IsNonDecreasing arrivals.now }
     requires early { (i : ℕ) → i < length arrivals.now →
-        slice_index arrivals.now i ≤ 1000000000 }
+        slice_index arrivals.now i ≤ greatest_number }
     ensures { IfOk result (IsFirstCrowdedTick curve.now arrivals.now) }
 {
     let spans = spans(alloc, curve, arrivals.len())?;
@@ -140,7 +141,7 @@ fn first_crowded_tick(
 fn has_crowded_pair(curve: &Prefix, spans: &[u64], arrivals: &[u64], j: usize) -> bool
     requires ascending { IsNonDecreasing arrivals.now }
     requires early { (i : ℕ) → i < length arrivals.now →
-        slice_index arrivals.now i ≤ 1000000000 }
+        slice_index arrivals.now i ≤ greatest_number }
     requires spans { AreSpans curve.now spans.now }
     requires lengths { length spans.now ≡ length arrivals.now }
     requires listed { j < length arrivals.now }

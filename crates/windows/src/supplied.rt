@@ -1,5 +1,6 @@
 //! Whether as many ticks are supplied as promised.
 ghost use Rattle.std.specs.Prelude.{◌≡◌, ◌+◌, ◌<◌, ◌≤◌, ◌↔◌, ℕ, length, true, false, IsTrue, IfOk};
+ghost use Rattle.lists.specs.Limits.{most_ticks};
 ghost use Rattle.lists.specs.Searches.{IsFirstBelow};
 ghost use Rattle.schedule_laws.specs.Tests.{is_short as is_short_by};
 ghost use Rattle.supply.specs.Promises.{sbf_of};
@@ -50,7 +51,7 @@ fn is_short(sheet: &Sheet, run: &Run, counts: &[u64], t: u64) -> bool
 
 /// The first tick with which some window ends that has fewer supplied ticks than promised.
 pub fn first_short(alloc: Global, sheet: &Sheet, run: &Run) -> Result<Option<u64>, AllocError>
-    requires { length run.now.ticks ≤ 100000 }
+    requires { length run.now.ticks ≤ most_ticks }
     ensures { IfOk result (IsFirstBelow
         (λ t. is_short_by (sbf_of sheet.now.supply) run.now (t + 1) ≡ true) (length run.now.ticks)) }
 {

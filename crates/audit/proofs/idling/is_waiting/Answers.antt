@@ -9,7 +9,7 @@ loop-o-preserved c = record {
   undone = c.front.ensures.undone c.args.t c.loop-o.invariant.undone;
   tasks = c.front.ensures.tasks ∙ c.loop-o.invariant.tasks;
   quiet = none_of_more (λ k. IsPending c.args.run.now k c.args.t) c.args.run.now c.loop-o.o c.loop-o.invariant.quiet
-      (none_waits c.args.run.now c.requires.small c.args.t c.loop-o.undone.served.items c.loop-o.o c.front.result c.loop-o.invariant.undone.counted c.front.ensures.front (λ late. both_ways c.is_released.result c.if-is_released.false (c.is_released.ensures.1 late)));
+      (none_waits c.args.run.now c.requires.released c.args.t c.loop-o.undone.served.items c.loop-o.o c.front.result c.loop-o.invariant.undone.counted c.front.ensures.front (λ late. both_ways c.is_released.result c.if-is_released.false (c.is_released.ensures.1 late)));
 }
 
 pub returns : goal.returns

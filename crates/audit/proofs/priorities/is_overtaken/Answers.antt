@@ -14,7 +14,7 @@ loop-o-preserved g c =
       undone = c.front-front.ensures.undone c.args.t c.loop-o.invariant.undone;
       tasks = c.front-front.ensures.tasks ∙ c.loop-o.invariant.tasks;
       quiet = none_of_more (λ k. IsPending run k c.args.t × (key_le c.args.key (p.key sheet (job_at run k)) ≡ false)) run c.loop-o.o c.loop-o.invariant.quiet
-          (λ k task w. none_urgent p sheet run c.requires.small c.args.key c.args.t c.loop-o.undone.served.items c.loop-o.o c.front-front.result (g.met.P.Policy.lawful sheet c.len-valid.ensures.valid) c.requires.tasks c.loop-o.invariant.undone.counted c.front-front.ensures.front
+          (λ k task w. none_urgent p sheet run c.requires.released c.args.key c.args.t c.loop-o.undone.served.items c.loop-o.o c.front-front.result (g.met.P.Policy.lawful sheet c.len-valid.ensures.valid) c.requires.tasks c.loop-o.invariant.undone.counted c.front-front.ensures.front
           (λ late. both_ways c.is_more_urgent.result c.if-is_more_urgent.false (c.is_more_urgent.ensures.1 late)) k task w.0 w.1);
     }
 

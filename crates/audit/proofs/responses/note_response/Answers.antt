@@ -14,7 +14,7 @@ overflow_sub-responses c =
     let runs : tick_at c.args.run.now c.args.t ≡ Runs c.in-Runs.k = cc in
     let pending = (valid_from c.args.run.now c.args.t c.in-Runs.k (c.requires.valid c.args.t c.requires.tick) runs).pending in
     let job : c.index-as_slice-k.result ≡ job_at c.args.run.now c.in-Runs.k = job_read c.args.run.now c.as_slice-in-Runs.result.now c.in-Runs.k c.index-as_slice-k.result pending.listed c.as_slice-in-Runs.ensures c.index-as_slice-k.is in
-    omega (arith, pending.released, c.requires.small.released c.in-Runs.k pending.listed, ap (λ (j : Job). j.arrival) job)
+    omega (arith, pending.released, c.requires.released.after c.in-Runs.k pending.listed, ap (λ (j : Job). j.arrival) job)
 
 pub returns-then-served-k : goal.returns-then-served-k
 returns-then-served-k c =

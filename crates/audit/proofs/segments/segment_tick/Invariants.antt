@@ -1,8 +1,9 @@
 use Rattle.std.proofs.Common.{ℕ, ◌<◌, length}
+use Rattle.lists.specs.Searches.{OnlyFails}
 use Rattle.schedule_laws.specs.Compliance.{can_cut}
 use Rattle.schedule_laws.specs.Tests.{is_segment_broken}
 use Rattle.audit.specs.ServiceCounts.{IsServed}
-use Rattle.audit.specs.TickRules.{IsTick, OnlyFails}
+use Rattle.audit.specs.TickRules.{IsTick}
 use Rattle.audit.proofs.segments.segment_tick.Given as goal
 
 abbrev pub invariant-loop-t : goal.invariant-loop-t

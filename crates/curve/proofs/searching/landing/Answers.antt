@@ -1,5 +1,6 @@
 use Rattle.std.proofs.Common.{sym, ◌∙◌, refl, subst, arith}
 use Rattle.curve.specs.Stairs.{IsSplit}
+use Rattle.curve.proofs.CurveFacts.{rises_from_test}
 use Rattle.curve.proofs.StairFacts.{value_none, value_last, back_last}
 use Rattle.curve.proofs.searching.landing.Goals as goal
 
@@ -14,7 +15,7 @@ returns-then-come-eq0 c = record {
 pub returns : goal.returns
 returns c =
     let split = c.requires.come in
-    let back = back_last c.args.steps.now c.args.begun c.args.come (record { time = 0; value = 0 }) c.requires.rising split c.if-come-eq0.false in
+    let back = back_last c.args.steps.now c.args.begun c.args.come (record { time = 0; value = 0 }) (rises_from_test 0 0 c.args.steps.now c.requires.rising) split c.if-come-eq0.false in
     let value = value_last c.args.steps.now c.args.begun c.args.come (record { time = 0; value = 0 }) split c.if-come-eq0.false in
     record {
       value = sym value;

@@ -11,4 +11,4 @@ returns-clause-rule c =
     let same : c.new.result ≡ c.in_ok-name.name.now = c.new.ensures ∙ c.in_ok-from_str.ensures.ok in
     let plain : is_name c.new.result ≡ true = rw same c.in_ok-name.ensures.plain in
     let fresh : list_any (bytes_eq c.new.result) (map string_bytes c.args.names.now.keys) ≡ false = rw same c.in_ok-name.ensures.fresh in
-    task_rule_from _ _ _ plain fresh c.in_ok-cost.ensures.within c.in_ok-deadline.ensures.within c.in_ok-priority.ensures.within (omega arith) no_point c.in_ok-cut.ensures.valid
+    task_rule_from _ _ _ plain fresh c.in_ok-cost.ensures.within c.in_ok-deadline.ensures.within c.in_ok-priority.ensures.within c.in_ok-jitter.ensures.within no_point c.in_ok-cut.ensures.valid

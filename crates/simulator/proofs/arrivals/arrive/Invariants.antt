@@ -1,11 +1,11 @@
 use Rattle.std.proofs.Common.{◌≡◌}
 use Rattle.simulated_run.specs.SimulatedRun.{arrive_below, moment_after}
-use Rattle.simulator.specs.SimulationState.{IsKept, world_by, moment_of}
+use Rattle.simulator.specs.SimulationState.{IsReady, world_by, moment_of}
 use Rattle.simulator.proofs.arrivals.arrive.Given as goal
 
 abbrev pub invariant-loop-o : goal.invariant-loop-o
 invariant-loop-o g l = record {
   moment : moment_of l.simulation ≡ arrive_below (world_by g.P.Policy.meaning g.M.Preemption.cuts l.sheet l.mode) l.t l.o
       (moment_after (world_by g.P.Policy.meaning g.M.Preemption.cuts l.sheet l.mode) l.t);
-  kept : IsKept g.P.Policy.meaning g.M.Preemption.cuts l.sheet l.t l.simulation;
+  kept : IsReady g.P.Policy.meaning g.M.Preemption.cuts l.sheet l.t l.simulation;
 }

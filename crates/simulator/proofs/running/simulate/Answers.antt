@@ -1,11 +1,11 @@
-use Rattle.std.proofs.Common.{◌≡◌, ℕ, ◌+◌, None, sym, subst, arith, add-one}
+use Rattle.std.proofs.Common.{◌≡◌, ℕ, ◌+◌, ◌<◌, length, None, sym, subst, arith, add-one}
 use Rattle.std.proofs.lemmas.Result.{err_from_is_err_and}
 use Rattle.task_sheet.specs.Sheets.{task_at}
 use Rattle.run_model.specs.declared.run.Run.{Run}
 use Rattle.run_text.specs.Text.{IsWithinLimits}
-use Rattle.schedule_laws.specs.Compliance.{IsCompliant}
+use Rattle.schedule_laws.specs.Compliance.{IsReleased, IsCompliant}
 use Rattle.simulated_run.specs.declared.mode.Mode.{Mode}
-use Rattle.simulated_run.specs.Laws.{IsDense, IsPrompt}
+use Rattle.simulated_run.specs.Laws.{IsDense}
 use Rattle.simulated_run.specs.SimulatedRun.{World, world_of, moment_after, simulated_run}
 use Rattle.simulator.specs.Simulations.{IsSimulation, refused_by}
 use Rattle.simulator.specs.SimulationState.{IsKept, world_by, moment_of, run_of}
@@ -43,18 +43,19 @@ returns g c =
     let n = c.args.n in
     let kept = c.loop-t.invariant.kept.jobs in
     let valid = c.in_ok-simulation.ensures.valid in
+    let complies : IsCompliant w.policy w.cuts sbf w.sheet run =
+    subst (IsCompliant w.policy w.cuts sbf w.sheet) (sym is)
+    (c.simulation_complies.ensures c.args.supply.now c.known.ensures w.sheet valid c.requires.served w.mode c.args.n) in
     record {
       exact = simulated (world_of w.policy w.cuts sbf w.sheet w.mode) c.args.n run is (subst (λ (r : Run). refused_by r.jobs ≡ None) (sym here) kept.within.none);
-      complies =
-          subst (IsCompliant w.policy w.cuts sbf w.sheet) (sym is)
-          (c.simulation_complies.ensures c.args.supply.now c.known.ensures w.sheet valid c.requires.served w.mode c.args.n);
-      prompt = subst IsPrompt (sym here) (λ k b. (kept.known k b).prompt);
+      complies = complies;
       full =
           λ dense. subst (IsDense sheet n) (sym is)
           (subst (λ (mode : Mode). IsDense sheet n (simulated_run (world_of w.policy w.cuts sbf sheet mode) n)) (sym dense)
           (c.dense_is_full.ensures c.args.supply.now c.known.ensures sheet valid n));
       within =
           subst IsWithinLimits (sym here)
-          (kept_within w.policy w.cuts w.sheet c.loop-t.t (run_of m) m.left.items m.queue m.inside kept valid
-          (λ o b. g.met.M.Tabled.tabled (task_at w.sheet o) (c.requires.served o b)) (omega arith));
+          (kept_within w.policy w.cuts w.sheet c.loop-t.t c.loop-t.t c.loop-t.t (run_of m) m.left.items m.queue m.coming m.inside kept valid
+          (λ o b. g.met.M.Tabled.tabled (task_at w.sheet o) (c.requires.served o b)) (omega arith)
+          (subst (λ (r : Run). (k : ℕ) → k < length r.jobs → IsReleased w.sheet r k) here complies.valid.releases));
     }

@@ -1,0 +1,7 @@
+pub mod CountFacts
+pub mod MostFacts
+pub mod StepFacts
+pub mod InferFacts
+pub mod LineFacts
+pub mod ReadOnFacts
+pub mod ReadingFacts

@@ -1,0 +1,6 @@
+pub mod Limits
+pub mod Traces
+pub mod Curves
+pub mod Gaps
+pub mod Text
+pub mod Parsing

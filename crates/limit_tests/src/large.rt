@@ -1,0 +1,139 @@
+//! Sheets at their limits, and a sheet that is printed and read again.
+use super::said::assert_said;
+use sheet_text::{print_sheet, read_sheet};
+use std::alloc::{AllocError, Global};
+use std::fmt::Write;
+use std::process::Abort;
+use std::test::Fail;
+use top_cases::files::{CROWD, EIGHT_TASKS};
+use top_cases::{shelf_of, sink_of, words_of};
+
+/// A sheet of so many equal tasks, under fp.
+fn equal_tasks(alloc: Global, count: u32) -> Result<String, AllocError> {
+    let mut text = String::from_str(alloc, "policy = \"fp\"\n")?;
+    for i in 0..count {
+        write!(
+            text,
+            "\n[[task]]\nname = \"t{i}\"\ncost = 1\ndeadline = 512\n"
+        )?;
+        text.push_str("priority = 1\nperiod = 512\n")?;
+    }
+    Ok(text)
+}
+
+/// The same window, bound and end for each task.
+fn equal_entries(alloc: Global, count: u32) -> Result<String, AllocError> {
+    let mut text = String::new(alloc);
+    write!(text, "poet-cert 1\ntasks {count}\n")?;
+    for i in 0..count {
+        write!(text, "task {i} {count} {count} 1\np 0 {count}\n")?;
+    }
+    text.push_str("end\n")?;
+    Ok(text)
+}
+
+fn equal_lines(alloc: Global, count: u32) -> Result<String, AllocError> {
+    let mut text = String::from_str(alloc, "accepted\n")?;
+    for i in 0..count {
+        write!(text, "task t{i} bound {count} deadline 512 met\n")?;
+    }
+    Ok(text)
+}
+
+/// A task with so many segments of one tick.
+fn segmented_task(alloc: Global, count: u32) -> Result<String, AllocError> {
+    let mut text = String::from_str(alloc, "policy = \"fp\"\n\n[[task]]\nname = \"a\"\n")?;
+    write!(text, "cost = {count}\ndeadline = 5000\npriority = 1\n")?;
+    text.push_str("period = 10000\npreemption = { fixed = [1")?;
+    for _ in 1..count {
+        text.push_str(", 1")?;
+    }
+    text.push_str("] }\n")?;
+    Ok(text)
+}
+
+/// Compares what the program says to the words over two files.
+fn assert_words(
+    rt: &impl Abort,
+    alloc: Global,
+    words: &str,
+    files: (&str, &str),
+    said: (u8, &str, &str),
+) -> Result<(), AllocError> {
+    let words = words_of(alloc, words)?;
+    let shelf = shelf_of(
+        alloc,
+        files.0.as_bytes(),
+        files.1.as_bytes(),
+        Vec::new(alloc),
+    )?;
+    let (out, err) = (sink_of(alloc, 262_144)?, sink_of(alloc, 4096)?);
+    let said = (said.0, said.1.as_bytes(), said.2.as_bytes());
+    assert_said(rt, alloc, &words, shelf, out, err, said);
+    Ok(())
+}
+
+#[test]
+fn as_many_tasks_as_there_may_be(rt: HostRuntime) -> Result<(), Fail> {
+    let alloc = rt.alloc();
+    let (sheet, certificate) = (equal_tasks(alloc, 256)?, equal_entries(alloc, 256)?);
+    let lines = equal_lines(alloc, 256)?;
+    let files = (sheet.as_str(), certificate.as_str());
+    assert_words(&rt, alloc, "check s c", files, (0, lines.as_str(), ""))?;
+    Ok(())
+}
+
+#[test]
+fn one_task_too_many(rt: HostRuntime) -> Result<(), Fail> {
+    let alloc = rt.alloc();
+    let sheet = equal_tasks(alloc, 257)?;
+    let line = "sheet: task out of range in top\n";
+    assert_words(&rt, alloc, "check s c", (sheet.as_str(), ""), (5, "", line))?;
+    Ok(())
+}
+
+#[test]
+fn as_many_segments_as_there_may_be(rt: HostRuntime) -> Result<(), Fail> {
+    let alloc = rt.alloc();
+    let most = segmented_task(alloc, 1000)?;
+    let certificate = "poet-cert 1\ntasks 1\ntask 0 1000 1000 1\np 0 1000\nend\n";
+    let lines = "accepted\ntask a bound 1000 deadline 5000 met\n";
+    let files = (most.as_str(), certificate);
+    assert_words(&rt, alloc, "check s c", files, (0, lines, ""))?;
+    let more = segmented_task(alloc, 1001)?;
+    let line = "sheet: preemption out of range in task 0\n";
+    let files = (more.as_str(), certificate);
+    assert_words(&rt, alloc, "check s c", files, (5, "", line))?;
+    Ok(())
+}
+
+/// The run of two ticks at each of which 10,000 jobs arrive.
+fn crowded_run(alloc: Global) -> Result<String, AllocError> {
+    let mut text = String::from_str(alloc, "poet-run 1\njobs 20000 ticks 2\n")?;
+    for k in 0..20_000 {
+        let arrival = k / 10_000;
+        write!(text, "j 0 {arrival} 1\n")?;
+    }
+    text.push_str("run 0 1\nrun 1 1\nend\n")?;
+    Ok(text)
+}
+
+#[test]
+fn as_many_jobs_as_there_may_be(rt: HostRuntime) -> Result<(), Fail> {
+    let alloc = rt.alloc();
+    let run = crowded_run(alloc)?;
+    let said = (0, run.as_str(), "");
+    assert_words(&rt, alloc, "simulate s dense 2", (CROWD, ""), said)?;
+    Ok(())
+}
+
+#[test]
+fn printed_sheets_read_again(rt: HostRuntime) -> Result<(), Fail> {
+    let alloc = rt.alloc();
+    let sheet = read_sheet(alloc, EIGHT_TASKS.as_bytes())?;
+    assert_eq!(rt; sheet.len(), 8);
+    let printed = print_sheet(alloc, &sheet)?;
+    let again = read_sheet(alloc, &printed)?;
+    assert_eq!(rt; print_sheet(alloc, &again)?.as_slice(), printed.as_slice());
+    Ok(())
+}

@@ -1,0 +1,10 @@
+pub mod CapFacts
+pub mod ChangeFacts
+pub mod SetFacts
+pub mod PlaceFacts
+pub mod NeedFacts
+pub mod BlockerFacts
+pub mod NextFacts
+pub mod MoveFacts
+pub mod MeterFacts
+pub mod StepFacts

@@ -1,0 +1,149 @@
+//! When the numbers that tell offsets apart change.
+ghost use Rattle.std.specs.Prelude.{◌≡◌, ◌≢◌, ◌≤◌, ◌<◌, length};
+ghost use Rattle.lists.specs.Limits.{greatest_number};
+ghost use Rattle.lists.specs.Searches.{IsLeast, IsLeastTo};
+ghost use Rattle.meter.specs.CapNumbers.{reach_of, reach_at};
+ghost use Rattle.meter.specs.Changes.{IsChange, IsCounted};
+
+use lists::limits::GREATEST_NUMBER;
+use policy::{Cap, Policy};
+use search_space::compared;
+use task_sheet::Sheet;
+
+/// The last offset that is looked at, in ticks.
+const LAST: u64 = GREATEST_NUMBER;
+
+/// An offset past them all, in ticks.
+const NEVER: u64 = 2 * GREATEST_NUMBER;
+
+/// The number of a task at an offset, and since when it is another.
+#[derive(Clone, Copy, Debug, PartialEq, Eq)]
+pub struct Counted {
+    /// The number of jobs that tells offsets apart.
+    pub count: u128,
+    /// The least later offset with another, in ticks; past 10^9 where there is none.
+    pub change: u64,
+}
+
+/// The number of a cap that is positive, else 0.
+fn reach(cap: Cap) -> u64
+    ensures { result ≡ reach_of cap }
+{
+    match cap {
+        Cap::At(c) => { if c <= 0 { 0 } else { c as u64 } }
+        Cap::Nothing | Cap::All => 0,
+    }
+}
+
+/// The cap's number of task `o` at offset `a` of task `i`.
+fn cap_reach<P: Policy>(sheet: &Sheet, i: u32, o: u32, a: u64) -> u64
+    requires i { i < length sheet.now.tasks }
+    requires o { o < length sheet.now.tasks }
+    requires other { i ≢ o }
+    requires offset { a ≤ greatest_number }
+    ensures { result ≡ reach_at P.meaning sheet.now i o a }
+{
+    reach(P::cap(sheet, i, o, a))
+}
+
+/// The least offset at which the cap's number is `e` or more, between one at which it is less and
+/// one at which it is not.
+fn least_between<P: Policy>(sheet: &Sheet, i: u32, o: u32, e: u64, from: u64, to: u64) -> u64
+    requires i { i < length sheet.now.tasks }
+    requires o { o < length sheet.now.tasks }
+    requires other { i ≢ o }
+    requires from { from ≤ greatest_number }
+    requires to { to ≤ greatest_number }
+    requires less { reach_at P.meaning sheet.now i o from < e }
+    requires more { e ≤ reach_at P.meaning sheet.now i o to }
+    ensures least { IsLeast (λ b. e ≤ reach_at P.meaning sheet.now i o b) result }
+    ensures within { result ≤ to }
+{
+    let _count = sheet.len();
+    let mut low = from;
+    let mut high = to;
+    while low + 1 < high {
+        let middle = low + (high - low) / 2;
+        if cap_reach::<P>(sheet, i, o, middle) < e {
+            low = middle;
+        } else {
+            high = middle;
+        }
+    }
+    high
+}
+
+/// The least offset at which the cap's number is `e` or more, where it is less at `a`.
+fn least_reach<P: Policy>(sheet: &Sheet, i: u32, o: u32, e: u64, a: u64) -> Option<u64>
+    requires i { i < length sheet.now.tasks }
+    requires o { o < length sheet.now.tasks }
+    requires other { i ≢ o }
+    requires offset { a ≤ greatest_number }
+    requires less { reach_at P.meaning sheet.now i o a < e }
+    ensures { IsLeastTo (λ b. e ≤ reach_at P.meaning sheet.now i o b) greatest_number result }
+{
+    let _count = sheet.len();
+    if cap_reach::<P>(sheet, i, o, LAST) < e {
+        return None;
+    }
+    // Caps that grow with the offset reach it here.
+    let guess = a.saturating_add(e - cap_reach::<P>(sheet, i, o, a));
+    if guess <= LAST
+        && cap_reach::<P>(sheet, i, o, guess) >= e
+        && cap_reach::<P>(sheet, i, o, guess - 1) < e
+    {
+        return Some(guess);
+    }
+    Some(least_between::<P>(sheet, i, o, e, a, LAST))
+}
+
+/// The least later offset of task `i` at which the number of task `o` is another than at `a`.
+fn next_change<P: Policy>(sheet: &Sheet, i: u32, o: u32, a: u64) -> Option<u64>
+    requires i { i < length sheet.now.tasks }
+    requires o { o < length sheet.now.tasks }
+    requires offset { a < greatest_number }
+    ensures { IsLeastTo (IsChange P.meaning sheet.now i a o) greatest_number result }
+{
+    if o == i {
+        next_own_change::<P>(sheet, i, a)
+    } else {
+        next_other_change::<P>(sheet, i, o, a)
+    }
+}
+
+fn next_own_change<P: Policy>(sheet: &Sheet, i: u32, a: u64) -> Option<u64>
+    requires i { i < length sheet.now.tasks }
+    requires offset { a < greatest_number }
+    ensures { IsLeastTo (IsChange P.meaning sheet.now i a i) greatest_number result }
+{
+    let task = sheet.task(i);
+    let next = task.curve.stair(a + 1 + task.jitter).until - 1 - task.jitter;
+    if next <= LAST { Some(next) } else { None }
+}
+
+fn next_other_change<P: Policy>(sheet: &Sheet, i: u32, o: u32, a: u64) -> Option<u64>
+    requires i { i < length sheet.now.tasks }
+    requires o { o < length sheet.now.tasks }
+    requires other { i ≢ o }
+    requires offset { a < greatest_number }
+    ensures { IsLeastTo (IsChange P.meaning sheet.now i a o) greatest_number result }
+{
+    let stair = sheet.task(o).curve.stair(cap_reach::<P>(sheet, i, o, a));
+    least_reach::<P>(sheet, i, o, stair.until, a)
+}
+
+/// The number of task `o` that tells the offsets of task `i` apart, at offset `a` in ticks, and
+/// the next offset with another.
+pub fn counting<P: Policy>(sheet: &Sheet, i: u32, o: u32, a: u64) -> Counted
+    requires i { i < length sheet.now.tasks }
+    requires o { o < length sheet.now.tasks }
+    requires offset { a < greatest_number }
+    ensures counted { IsCounted P.meaning sheet.now i a o result.count result.change }
+    ensures bound { result.count ≤ 5000000000000000 }
+{
+    let _count = sheet.len();
+    Counted {
+        count: compared::<P>(sheet, i, a, o),
+        change: next_change::<P>(sheet, i, o, a).unwrap_or(NEVER),
+    }
+}

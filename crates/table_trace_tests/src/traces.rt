@@ -86,7 +86,8 @@ fn infers_from_ten_thousand_arrivals(rt: HostRuntime) -> Result<(), Fail> {
     let curve = infer(rt.alloc(), &trace, 1_000_000_000)?;
     assert_eq!(rt; curve.steps().len(), 10_000);
     for (k, step) in curve.steps().iter().enumerate() {
-        assert_eq!(rt; step.time, 100_000 * k as u64 + 1);
+        assert_eq!(rt; step.time / 100_000, k as u64);
+        assert_eq!(rt; step.time % 100_000, 1);
         assert_eq!(rt; step.value, k as u64 + 1);
     }
     Ok(())

@@ -4,14 +4,15 @@ use Rattle.std.proofs.lemmas.Nat.{div-add-mod', mod_below}
 use Rattle.std.proofs.Math.Nat.{mul-le-mul_left}
 use Rattle.curve.specs.CurveValue.{Curve}
 use Rattle.curve.specs.Curves.{value_of, alpha_of}
-use Rattle.curve.specs.Validity.{IsCurve, StartsAtOne}
+use Rattle.curve.specs.Validity.{IsCurve}
+use Rattle.curve.proofs.CurveFacts.{StartsAtOne}
 use Rattle.curve.proofs.RiseFacts.{alpha_at}
 use Rattle.schedule_laws.specs.Compliance.{arrivals_of}
 use Rattle.curve_infer.specs.Traces.{IsTrace}
 use Rattle.curve_infer.specs.Curves.{times_in, Respects, most_of, steps_to, inferred_curve, IsNextRise, IsLeastCurve, KeepsCurves}
 use Rattle.curve_infer.proofs.CountFacts.{arrive_alike}
 use Rattle.curve_infer.proofs.MostFacts.{most_at, most_low, most_zero, most_high, most_mono, most_cycles, most_one}
-use Rattle.curve_infer.proofs.StepFacts.{IsRising, value_steps, steps_are, steps_start, steps_once}
+use Rattle.curve_infer.proofs.StepFacts.{IsRising, starts_test, rise_test, value_steps, steps_are, steps_start, steps_once}
 
 pub most_rises : (times : List ℕ) → IsTrace times → IsRising (most_of times)
 most_rises times ok = record { begins = most_zero times ok; mono = most_mono times ok }
@@ -32,8 +33,8 @@ module _ (times : List ℕ) (ok : IsTrace times) (h : ℕ) (low : 1 ≤ h) (high
         horizon_high = high;
         few = omega (arith, few, top, steps.few);
         fit = steps.fit;
-        first = starts_at (most_of times) rises (most_one times ok 1 (omega arith)) h low;
-        rising = steps.rising;
+        first = starts_test _ (starts_at (most_of times) rises (most_one times ok 1 (omega arith)) h low);
+        rising = rise_test 0 0 _ steps.rising;
         within = steps.last;
       }
 

@@ -1,11 +1,12 @@
 use Rattle.std.proofs.Common.{◌≡◌, ℕ, zero, suc, ◌+◌, ◌<◌, ◌≤◌, Bool, true, cond, leb, List, [], ◌∷◌, ◌++◌, length, refl, sym, ◌∙◌, ap, arith, inl, inr, add-zero}
 use Rattle.std.specs.List.{list_all}
-use Rattle.std.proofs.lemmas.Bool.{cases_lt, and_parts, and_from, lt-ltb, le-ltb, le-leb, lt-leb}
+use Rattle.std.proofs.lemmas.Bool.{cases_lt, and_parts, and_from, eq-eqb, lt-ltb, le-ltb, le-leb, lt-leb}
 use Rattle.std.proofs.lemmas.Bool.Decides.{nat_tests}
 use Rattle.std.proofs.lemmas.List.{length-append}
 use Rattle.curve.specs.declared.prefix.Step.{Step}
 use Rattle.curve.specs.Curves.{last_value}
-use Rattle.curve.specs.Validity.{is_step, last_time, StartsAtOne, RiseFrom}
+use Rattle.curve.specs.Validity.{is_step, last_time, starts_at_one, rise_from}
+use Rattle.curve.proofs.CurveFacts.{StartsAtOne, RiseFrom}
 use Rattle.curve_infer.specs.Curves.{steps_to}
 
 -- a function that begins with 0 and does not fall
@@ -15,6 +16,15 @@ pub record IsRising (f : ℕ → ℕ) : Type 0 where
 
 abbrev pub step_at : (ℕ → ℕ) → ℕ → Step
 step_at f d = record { time = d; value = f d }
+
+-- the tests of a curve, put together
+pub starts_test : (steps : List Step) → StartsAtOne steps → starts_at_one steps ≡ true
+starts_test [] h = absurd h
+starts_test (s ∷ steps) h = eq-eqb s.time 1 h
+
+pub rise_test : (time value : ℕ) (steps : List Step) → RiseFrom time value steps → rise_from time value steps ≡ true
+rise_test time value [] h = refl
+rise_test time value (s ∷ steps) h = and_from _ _ (lt-ltb time s.time h.0) (and_from _ _ (lt-ltb value s.value h.1) (rise_test s.time s.value steps h.2))
 
 -- one number more: a step, or none
 pub step_here : (f : ℕ → ℕ) (n : ℕ) → f n < f (suc n) → steps_to f (suc n) ≡ steps_to f n ++ (step_at f (suc n) ∷ [])

@@ -1,6 +1,6 @@
 //! Reading a trace.
 ghost use Rattle.std.specs.Prelude.{◌≡◌, ◌≢◌, IfOk, IfErr};
-ghost use Rattle.poet_io.specs.Texts.{Parses, IsReading, Gives};
+ghost use Rattle.poet_io.specs.Texts.{Parses, IsReading, AnswersReading};
 ghost use Rattle.curve_infer.specs.Text.{trace_format};
 ghost use Rattle.curve_infer.specs.Parsing.{trace_of_text};
 
@@ -17,7 +17,7 @@ pub fn read_trace(alloc: Global, bytes: &[u8]) -> Result<Trace, TextRefusal>
     ensures found { IfOk result (λ trace. Parses trace_format bytes.now trace) }
     ensures refused { IfErr result (λ e. e ≢ TextRefusal.Memory →
         IsReading trace_format bytes.now (Err e)) }
-    ensures gives { Gives result (trace_of_text bytes.now) }
+    ensures gives { AnswersReading result (trace_of_text bytes.now) }
 {
     let mut draft = Draft::new(alloc);
     let mut start = 0usize;

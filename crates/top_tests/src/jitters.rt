@@ -1,7 +1,7 @@
 //! Rows of sheets whose jobs may be released after their arrival.
 use super::cases::{Case, assert_cases};
-use super::files::{ONE_TASK, PERIODIC_RUN};
 use std::test::Fail;
+use top_cases::files::{ONE_TASK, PERIODIC_RUN};
 
 const JITTER: &str =
     "policy = \"fp\"\n\n[[task]]\nname = \"a\"\ncost = 2\ndeadline = 5\npriority = 1\njitter = 3\nperiod = 5\n";

@@ -109,10 +109,10 @@ fn as_many_segments_as_there_may_be(rt: HostRuntime) -> Result<(), Fail> {
 
 /// The run of two ticks at each of which 10,000 jobs arrive.
 fn crowded_run(alloc: Global) -> Result<String, AllocError> {
-    let mut text = String::from_str(alloc, "poet-run 1\njobs 20000 ticks 2\n")?;
+    let mut text = String::from_str(alloc, "poet-run 2\njobs 20000 ticks 2\n")?;
     for k in 0..20_000 {
         let arrival = k / 10_000;
-        write!(text, "j 0 {arrival} 1\n")?;
+        write!(text, "j 0 {arrival} {arrival} 1\n")?;
     }
     text.push_str("run 0 1\nrun 1 1\nend\n")?;
     Ok(text)

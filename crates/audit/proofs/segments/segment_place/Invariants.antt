@@ -3,7 +3,7 @@ use Rattle.schedule_laws.specs.Compliance.{can_cut}
 use Rattle.schedule_laws.specs.Tests.{is_segment_broken}
 use Rattle.audit.specs.ServiceCounts.{IsServed}
 use Rattle.audit.specs.TickRules.{IsTick, OnlyFails}
-use Rattle.audit.proofs.segments.segment_tick.Given as goal
+use Rattle.audit.proofs.segments.segment_place.Given as goal
 
 abbrev pub invariant-loop-t : goal.invariant-loop-t
 invariant-loop-t g l = record {

@@ -4,8 +4,8 @@ use Rattle.run_model.specs.declared.run.Tick.{Tick}
 use Rattle.run_model.specs.declared.run.Tick.TheVariants.{Off}
 use Rattle.audit.specs.TickRules.{Leaves}
 use Rattle.audit.proofs.ServedFacts.{served_written}
-use Rattle.audit.proofs.SegmentFacts.{left_kept, left_broken, inside_none}
-use Rattle.audit.proofs.segments.segment_tick.Goals as goal
+use Rattle.audit.proofs.SegmentFacts.{left_kept, left_place, inside_none}
+use Rattle.audit.proofs.segments.segment_place.Goals as goal
 
 pub loop-t-init : goal.loop-t-init
 loop-t-init g c = record {
@@ -23,11 +23,8 @@ loop-t-preserved g c = record {
 }
 
 pub returns-then-leaves : goal.returns-then-leaves
-returns-then-leaves g c = (
-  omega arith,
-  left_broken g.M.Preemption.cuts c.args.sheet.now c.args.run.now c.loop-t.t (omega arith) c.loop-t.inside c.loop-t.invariant.inside (subst (λ (v : List Tick). Leaves (get_or v c.loop-t.t Off) c.loop-t.inside) c.as_slice.ensures (c.leaves.ensures.0 c.if-leaves.true)),
-  c.loop-t.invariant.before,
-)
+returns-then-leaves g c =
+    left_place g.M.Preemption.cuts c.args.sheet.now c.args.run.now c.loop-t.t (omega arith) c.loop-t.inside _ c.loop-t.invariant.inside (subst (λ (v : List Tick). Leaves (get_or v c.loop-t.t Off) c.loop-t.inside) c.as_slice.ensures (c.leaves.ensures.0 c.if-leaves.true)) c.place_of.ensures c.loop-t.invariant.before
 
 pub returns : goal.returns
 returns g c = λ t b. c.loop-t.invariant.before t (omega arith)

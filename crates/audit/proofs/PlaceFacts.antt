@@ -15,7 +15,7 @@ use Rattle.run_model.specs.Runs.{job_at, tick_at, is_pending}
 use Rattle.schedule_laws.specs.Compliance.{can_cut}
 use Rattle.schedule_laws.specs.Tests.{is_idle, is_more_urgent, is_idle_broken, is_priority_broken}
 use Rattle.urgency.specs.Queues.{IsMostUrgent}
-use Rattle.urgency.proofs.QueueFacts.{urgent_by_rank}
+use Rattle.urgency.proofs.RankFacts.{urgent_by_rank}
 use Rattle.audit.specs.declared.verdict.Place.{Place}
 use Rattle.audit.specs.Pending.{IsSomePending}
 use Rattle.audit.specs.TickRules.{IsTick, IsFirstPlace, place_at, is_urgent_by}

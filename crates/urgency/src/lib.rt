@@ -4,5 +4,5 @@
 mod queue;
 mod rank;
 
-pub use queue::Queue;
+pub use queue::{Queue, first_entry};
 pub use rank::{Rank, rank_of};

@@ -18,6 +18,19 @@ pub struct Queue {
     pub jobs: BTreeMap<Rank, u32>,
 }
 
+/// The job of the first entry.
+pub fn first_entry(jobs: &BTreeMap<Rank, u32>) -> Option<u32>
+    ensures { MatchOption result (length jobs.now.entries ≡ 0) (IsFirstEntry jobs.now) }
+{
+    match jobs.first_key_value() {
+        Some((_, k)) => {
+            let number = *k;
+            Some(number)
+        }
+        None => None,
+    }
+}
+
 impl Queue {
     /// With no job.
     pub fn new(alloc: Global) -> Queue
@@ -59,24 +72,11 @@ impl Queue {
         self.jobs.remove(&rank);
     }
 
-    /// The job of the first entry.
-    fn first_entry(&self) -> Option<u32>
-        ensures { MatchOption result (length self.now.jobs.entries ≡ 0) (IsFirstEntry self.now.jobs) }
-    {
-        match self.jobs.first_key_value() {
-            Some((_, k)) => {
-                let number = *k;
-                Some(number)
-            }
-            None => None,
-        }
-    }
-
     /// The first job: no other comes before it by key, task, arrival and number.
     pub fn first(&self) -> Option<u32>
         ensures { (p : PolicyMeaning) (sheet : SheetParts) (jobs : List JobValue) (test : ℕ → Bool) →
             IsQueue p sheet jobs test self.now.jobs → IsMostUrgent p sheet jobs test result }
     {
-        self.first_entry()
+        first_entry(&self.jobs)
     }
 }

@@ -32,14 +32,7 @@ fn is_more_urgent<P: Policy>(sheet: &Sheet, run: &Run, key: Key, k: u32) -> bool
 }
 
 /// Whether job `k` is pending at tick `t` and more urgent than the key.
-fn is_urgent<P: Policy>(
-    sheet: &Sheet,
-    run: &Run,
-    served: &[u64],
-    key: Key,
-    k: u32,
-    t: u64,
-) -> bool
+fn is_urgent<P: Policy>(sheet: &Sheet, run: &Run, served: &[u64], key: Key, k: u32, t: u64) -> bool
     requires small { IsSmall run.now }
     requires tasks { AreOf sheet.now run.now }
     requires job { k < length run.now.jobs }
@@ -84,7 +77,8 @@ fn urgent_job<P: Policy>(
     requires small { IsSmall run.now }
     requires tasks { AreOf sheet.now run.now }
     requires served { IsServed run.now t served.now }
-    requires first { IsMostUrgent P.meaning sheet.now run.now.jobs (λ k. is_pending_by run.now k t) first }
+    requires first { IsMostUrgent P.meaning sheet.now run.now.jobs
+        (λ k. is_pending_by run.now k t) first }
     ensures { IsFirstBelow (λ k. is_urgent_by P.meaning sheet.now run.now key t k ≡ true)
         (length run.now.jobs) result }
 {
@@ -115,7 +109,8 @@ fn overtaken_job<P: Policy, M: Tabled>(
     requires kind { Serves M.cuts sheet.now }
     requires sums { AreSums run.now sums.now }
     requires served { IsServed run.now t served.now }
-    requires first { IsMostUrgent P.meaning sheet.now run.now.jobs (λ k. is_pending_by run.now k t) first }
+    requires first { IsMostUrgent P.meaning sheet.now run.now.jobs
+        (λ k. is_pending_by run.now k t) first }
     ensures { IsFirstBelow (λ k. is_priority_broken P.meaning M.cuts sheet.now run.now t k ≡ true)
         (length run.now.jobs) result }
 {

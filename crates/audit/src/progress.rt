@@ -77,8 +77,10 @@ fn let_in<P: Policy>(
 ) -> Result<u64, AllocError>
     requires small { IsSmall run.now }
     requires tasks { AreOf sheet.now run.now }
-    requires come { HasCome P.meaning sheet.now run.now t served.now coming.now next queue.old.jobs }
-    ensures { IfOk result (λ n. IsReady P.meaning sheet.now run.now t served.now coming.now n queue.new.jobs) }
+    requires come { HasCome P.meaning sheet.now run.now t served.now coming.now next
+        queue.old.jobs }
+    ensures { IfOk result (λ n.
+        IsReady P.meaning sheet.now run.now t served.now coming.now n queue.new.jobs) }
 {
     for i in next..coming.len() as u64 {
         let arrival = coming[i as usize];
@@ -136,7 +138,8 @@ impl Progress {
     pub fn first<P: Policy>(&self, sheet: &Sheet, run: &Run, t: u64) -> Option<u32>
         requires ready { IsReady P.meaning sheet.now run.now t self.now.served.items
             self.now.coming.items self.now.next self.now.queue.jobs }
-        ensures { IsMostUrgent P.meaning sheet.now run.now.jobs (λ k. is_pending run.now k t) result }
+        ensures { IsMostUrgent P.meaning sheet.now run.now.jobs
+            (λ k. is_pending run.now k t) result }
     {
         self.queue.first()
     }

@@ -1,6 +1,6 @@
 -- The first place at which a rule is broken, by the first of the pending jobs.
-use Rattle.std.proofs.Common.{◌≡◌, ◌≢◌, ℕ, ◌+◌, ◌<◌, ◌≤◌, ◌&&◌, not, Bool, true, false, length, Option, Some, None, refl, sym, ◌∙◌, ap, subst, inl, inr, arith, below_more}
-use Rattle.std.proofs.lemmas.Bool.{both_ways, false_from_ne_true, and_parts, and_left, not-false, not_from_true, not-true}
+use Rattle.std.proofs.Common.{◌≡◌, ◌≢◌, ℕ, ◌+◌, ◌<◌, ◌&&◌, not, Bool, true, false, length, Option, Some, None, refl, sym, ◌∙◌, ap, below_more}
+use Rattle.std.proofs.lemmas.Bool.{both_ways, and_parts, and_left, not-true}
 use Rattle.lists.specs.Searches.{IsFirstBelow}
 use Rattle.task_sheet.specs.SheetParts.{SheetParts}
 use Rattle.policy.specs.declared.keys.Key.{Key}
@@ -17,7 +17,6 @@ use Rattle.schedule_laws.specs.Tests.{is_idle, is_more_urgent, is_idle_broken, i
 use Rattle.urgency.specs.Queues.{IsMostUrgent}
 use Rattle.urgency.proofs.RankFacts.{urgent_by_rank}
 use Rattle.audit.specs.declared.verdict.Place.{Place}
-use Rattle.audit.specs.Pending.{IsSomePending}
 use Rattle.audit.specs.TickRules.{IsTick, IsFirstPlace, place_at, is_urgent_by}
 
 -- tests that agree have the same first number

@@ -7,7 +7,7 @@ use Rattle.run_model.specs.declared.run.Run.{Run}
 use Rattle.audit.specs.declared.verdict.Fault.{Fault}
 use Rattle.audit.specs.declared.verdict.Rule.{Rule}
 use Rattle.audit.specs.Faults.{fault_at, found_in}
-use Rattle.audit.specs.TickRules.{IsTick, IsFirstPlace}
+use Rattle.audit.specs.TickRules.{IsFirstPlace}
 use Rattle.audit.specs.declared.verdict.Place.{Place}
 
 -- a row of tests, and the first that fails

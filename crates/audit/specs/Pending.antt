@@ -4,7 +4,7 @@ use Rattle.std.specs.BTreeMap.{BTreeMap}
 use Rattle.task_sheet.specs.SheetParts.{SheetParts}
 use Rattle.policy.specs.PolicyMeaning.{PolicyMeaning}
 use Rattle.run_model.specs.declared.run.Run.{Run}
-use Rattle.run_model.specs.Runs.{job_at, is_done, is_pending}
+use Rattle.run_model.specs.Runs.{is_done, is_pending}
 use Rattle.urgency.specs.declared.rank.Rank.{Rank}
 use Rattle.urgency.specs.Queues.{IsQueue}
 use Rattle.audit.specs.declared.arrivals.Arrival.{Arrival}

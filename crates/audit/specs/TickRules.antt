@@ -1,5 +1,5 @@
 -- What the searches ask at a tick.
-use Rattle.std.specs.Prelude.{◌≡◌, ◌≢◌, ℕ, ◌<◌, ◌&&◌, Bool, true, false, not, length, Option, Some, None}
+use Rattle.std.specs.Prelude.{◌≡◌, ◌≢◌, ℕ, ◌<◌, ◌&&◌, Bool, true, not, length, Option, Some, None}
 use Rattle.task_sheet.specs.SheetParts.{SheetParts}
 use Rattle.policy.specs.declared.keys.Key.{Key}
 use Rattle.policy.specs.Keys.{key_le}

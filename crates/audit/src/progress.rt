@@ -1,5 +1,5 @@
 //! Which jobs are pending at a tick.
-ghost use Rattle.std.specs.Prelude.{◌≡◌, ◌+◌, ◌<◌, ◌≤◌, ℕ, Bool, IfOk, OnOk, cond, length, nat_le, not};
+ghost use Rattle.std.specs.Prelude.{◌≡◌, ◌+◌, ◌<◌, ◌≤◌, ℕ, Bool, IfOk, OnOk, cond, length, not};
 ghost use Rattle.lists.specs.Limits.{greatest_number};
 ghost use Rattle.task_sheet.specs.SheetParts.{SheetParts};
 ghost use Rattle.task_sheet.specs.Sheets.{IsOf};
@@ -10,7 +10,6 @@ ghost use Rattle.schedule_laws.specs.Tests.{AreOf};
 ghost use Rattle.urgency.specs.Queues.{IsQueue, IsMostUrgent, Has, with_member, without};
 ghost use Rattle.audit.specs.Pending.{HasCome, IsReady};
 ghost use Rattle.audit.specs.Premises.{IsSmall};
-ghost use Rattle.audit.specs.ServiceCounts.{IsServed};
 
 use crate::arrivals::{Arrival, release_order};
 use crate::service_counts::{is_undone, no_service, serve};

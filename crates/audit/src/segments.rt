@@ -1,8 +1,8 @@
 //! The rule on segments.
-ghost use Rattle.std.specs.Prelude.{◌≡◌, ◌+◌, ◌<◌, ◌↔◌, IfOk, IsTrue, MatchOption, cond, length, None, Some};
+ghost use Rattle.std.specs.Prelude.{◌≡◌, ◌+◌, ◌<◌, ◌↔◌, IfOk, IsTrue, MatchOption, length, None, Some};
 ghost use Rattle.lists.specs.Searches.{OnlyFails};
 ghost use Rattle.preemption.specs.CutLaws.{Serves};
-ghost use Rattle.run_model.specs.Runs.{job_at, tick_at};
+ghost use Rattle.run_model.specs.Runs.{tick_at};
 ghost use Rattle.schedule_laws.specs.Compliance.{can_cut};
 ghost use Rattle.schedule_laws.specs.Tests.{AreOf, is_segment_broken};
 ghost use Rattle.audit.specs.CutSums.{AreSums};

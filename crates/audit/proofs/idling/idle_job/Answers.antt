@@ -1,4 +1,4 @@
-use Rattle.std.proofs.Common.{◌≡◌, ℕ, length, sym, ◌∙◌}
+use Rattle.std.proofs.Common.{◌≡◌, length, sym, ◌∙◌}
 use Rattle.std.proofs.lemmas.Bool.{both_ways}
 use Rattle.run_model.specs.Runs.{tick_at, is_pending}
 use Rattle.run_model.specs.declared.run.Tick.TheVariants.{Idle}

@@ -8,5 +8,6 @@ pub mod OrderFacts
 pub mod ReleaseFacts
 pub mod UndoneFacts
 pub mod SegmentFacts
-pub mod WaitFacts
+pub mod PendingFacts
+pub mod PlaceFacts
 pub mod CutFacts

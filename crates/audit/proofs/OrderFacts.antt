@@ -1,9 +1,9 @@
 -- Sorting gives the jobs in the order of their arrivals and releases.
-use Rattle.std.proofs.Common.{◌≡◌, ℕ, ◌+◌, ◌<◌, ◌≤◌, Bool, false, List, [], ◌∷◌, ◌++◌, length, refl, sym, ◌∙◌, ap, subst, inl, inr, arith, All}
+use Rattle.std.proofs.Common.{◌≡◌, ℕ, ◌+◌, ◌<◌, false, List, [], ◌∷◌, ◌++◌, length, refl, sym, ◌∙◌, ap, subst, inl, inr, arith, All}
 use Rattle.std.specs.List.{Contains}
-use Rattle.std.specs.List.Sorted.{IsPermutation, IsSorted}
+use Rattle.std.specs.List.Sorted.{IsPermutation, IsSorted, IsNonDecreasingBy}
 use Rattle.std.specs.Cmp.{IsTotalOrder}
-use Rattle.std.specs.Ordering.{is_lt, nat_cmp, ordering_then}
+use Rattle.std.specs.Ordering.{is_lt}
 use Rattle.std.proofs.lemmas.Bool.{cases_lt}
 use Rattle.std.proofs.lemmas.List.{get_or_append_left, get_or_at, get_or_default, get_or_read, length-append}
 use Rattle.std.proofs.lemmas.List.Elements.{All-get_or, All-from_get_or}
@@ -12,7 +12,7 @@ use Rattle.std.proofs.lemmas.Cmp.{then_total, on_total, nat_cmp_total}
 use Rattle.std.proofs.lemmas.Bool.Decides.{nat_tests}
 use Rattle.run_model.specs.declared.run.Run.{Run}
 use Rattle.audit.specs.declared.arrivals.Arrival.{Arrival}
-use Rattle.audit.specs.ArrivalOrder.{no_arrival, arrival_at, arrival_of, arrival_cmp, AreFirstArrivals, IsArrival, HasPlace, IsNoLater, IsOrder}
+use Rattle.audit.specs.ArrivalOrder.{no_arrival, arrival_at, arrival_of, arrival_cmp, AreFirstArrivals, IsArrival, HasPlace, IsNoLater, IsOrder, IsReleaseOrder}
 
 pub arrivals_none : (run : Run) (arrivals : List Arrival) → arrivals ≡ [] → AreFirstArrivals run 0 arrivals
 arrivals_none run arrivals is = record { count = ap length is; each = λ k b. absurd (omega arith) }
@@ -71,4 +71,11 @@ module _ (run : Run) (arrivals order : List Arrival) (given : AreFirstArrivals r
     complete = placed;
     ascending = λ i j h b. no_later (arrival_at order i) (arrival_at order j)
         (sorted_far (λ x y. is_lt (arrival_cmp x y)) (ranks_by arrival_total (λ (a : Arrival). a)) order sorted i j no_arrival h b);
+  }
+
+  pub release_order_from : IsNonDecreasingBy (λ (a : Arrival). a.release) order → IsReleaseOrder run order
+  release_order_from sorted = record {
+    listed = λ i b. All-get_or (IsArrival run) order i no_arrival b all_arrivals;
+    complete = placed;
+    ascending = λ i j h b. sorted i j no_arrival h b;
   }

@@ -1,6 +1,6 @@
 -- What the greatest releases so far say of the rule on releases.
-use Rattle.std.proofs.Common.{◌≡◌, ◌≢◌, ℕ, ◌+◌, ◌<◌, ◌≤◌, ◌==◌, ◌&&◌, ◌⊎◌, Bool, true, false, cond, min, max, List, length, get_or, replicate, Option, Some, None, refl, sym, ◌∙◌, ap, subst, inl, inr, arith, leb, ltb}
-use Rattle.std.proofs.lemmas.Bool.{cases_Bool, cases_lt, cases_eq, and_parts, and_from, both_ways, false_from_ne_true, true_from_ne_false, leb-false, leb-true, le-leb, ltb-true, lt-ltb, eqb-true, eq-eqb}
+use Rattle.std.proofs.Common.{◌≡◌, ◌≢◌, ℕ, ◌+◌, ◌<◌, ◌≤◌, ◌==◌, ◌&&◌, ◌⊎◌, Bool, true, false, cond, min, max, List, length, get_or, replicate, Option, Some, None, sym, ◌∙◌, ap, subst, inl, inr, arith, leb, ltb}
+use Rattle.std.proofs.lemmas.Bool.{cases_Bool, cases_lt, cases_eq, and_parts, and_from, both_ways, false_from_ne_true, leb-true, le-leb, ltb-true, lt-ltb, eqb-true, eq-eqb}
 use Rattle.std.proofs.lemmas.List.{get_or-set_same, get_or-set_other, length-set, length-replicate, get_or-replicate}
 use Rattle.std.proofs.Math.ListN.{set}
 use Rattle.lists.specs.Searches.{IsFirstBelow}
@@ -11,7 +11,7 @@ use Rattle.schedule_laws.specs.Tests.{is_before, is_timely, is_overtaken, is_rel
 use Rattle.schedule_laws.proofs.TestFacts.{untimely_breaks, overtaken_breaks, never_overtaken}
 use Rattle.audit.specs.declared.arrivals.Arrival.{Arrival}
 use Rattle.audit.specs.ArrivalOrder.{arrival_at, IsOrder}
-use Rattle.audit.specs.Releases.{lesser_of, IsPassed, IsLatest, AreLatest, IsLeastBroken}
+use Rattle.audit.specs.Releases.{lesser_of, IsLatest, AreLatest, IsLeastBroken}
 
 -- what one job's overtaking another says of them
 record Overtakes (run : Run) (k n : ℕ) : Type 0 where

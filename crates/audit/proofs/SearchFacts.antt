@@ -2,13 +2,13 @@
 use Rattle.std.proofs.Common.{◌≡◌, ℕ, ◌<◌, Bool, true, false, not, length, Option, Some, None, MatchOption, sym, ◌∙◌}
 use Rattle.std.proofs.lemmas.Bool.{not-true, not_from_true, not_from_false, false_from_ne_true}
 use Rattle.lists.specs.Firsts.{must, first_below}
-use Rattle.lists.specs.Searches.{IsFirstBelow}
 use Rattle.lists.proofs.FirstFacts.{none_from, none_below, first_stays, must_from, must_holds, must_fails}
 use Rattle.run_model.specs.declared.run.Run.{Run}
 use Rattle.audit.specs.declared.verdict.Fault.{Fault}
 use Rattle.audit.specs.declared.verdict.Rule.{Rule}
 use Rattle.audit.specs.Faults.{fault_at, found_in}
-use Rattle.audit.specs.TickRules.{IsTick}
+use Rattle.audit.specs.TickRules.{IsFirstPlace}
+use Rattle.audit.specs.declared.verdict.Place.{Place}
 
 -- a row of tests, and the first that fails
 module _ (test : ℕ → Bool) (f : ℕ → Fault) (n : ℕ) where
@@ -44,16 +44,15 @@ module _ (of : Rule) (test : ℕ → ℕ → Bool) where
       (first_fails (λ m. not (test t m)) (λ m. fault_at of m t) jobs k c (not_from_true (test t k) here) (λ m d. not_from_false (test t m) (least m d)))
 
   -- where no tick has a job that passes
-  pub tick_none : (run : Run) → IsFirstBelow (IsTick test run) (length run.ticks) None →
+  tick_none : (run : Run) → IsFirstPlace test run None →
       found_in of test (length run.ticks) (length run.jobs) ≡ None
   tick_none run none = found_none (length run.ticks) (length run.jobs) (λ t k b c. false_from_ne_true (test t k) (λ h. none t b (record { job = k; listed = c; passes = h })))
 
-  -- the least job at the first tick that has one
-  pub tick_some : (run : Run) (t : ℕ) (job : Option ℕ) (f : Option Fault) →
-      IsFirstBelow (IsTick test run) (length run.ticks) (Some t) →
-      IsFirstBelow (λ k. test t k ≡ true) (length run.jobs) job →
-      MatchOption job (f ≡ None) (λ k. f ≡ Some (fault_at of k t)) → f ≡ found_in of test (length run.ticks) (length run.jobs)
-  tick_some run t None f first least is = let w = first.1 in absurd (least w.job w.listed w.passes)
-  tick_some run t (Some k) f first least is =
+  -- the first place is the fault that is found
+  pub placed : (run : Run) (place : Option Place) (f : Option Fault) → IsFirstPlace test run place →
+      MatchOption place (f ≡ None) (λ w. f ≡ Some (fault_at of w.job w.tick)) → f ≡ found_in of test (length run.ticks) (length run.jobs)
+  placed run None f none is = is ∙ sym (tick_none run none)
+  placed run (Some w) f first is =
+      let least = first.1 in
       is
-      ∙ sym (found_some (length run.ticks) (length run.jobs) t k first.0 least.0 least.1 (λ s m b c. false_from_ne_true (test s m) (λ h. first.2 s b (record { job = m; listed = c; passes = h }))) (λ m b. false_from_ne_true (test t m) (least.2 m b)))
+      ∙ sym (found_some (length run.ticks) (length run.jobs) w.tick w.job first.0 least.0 least.1 (λ s m b c. false_from_ne_true (test s m) (λ h. first.2 s b (record { job = m; listed = c; passes = h }))) (λ m b. false_from_ne_true (test w.tick m) (least.2 m b)))

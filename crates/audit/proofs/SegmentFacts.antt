@@ -1,5 +1,5 @@
 -- The one job that may be inside a segment.
-use Rattle.std.proofs.Common.{◌≡◌, ◌≢◌, ℕ, ◌+◌, ◌<◌, Bool, true, false, length, Option, Some, None, refl, sym, ◌∙◌, ap, subst, inl, inr, add-one}
+use Rattle.std.proofs.Common.{◌≡◌, ◌≢◌, ℕ, ◌+◌, ◌<◌, Bool, true, false, length, Option, MatchOption, Some, None, arith, refl, sym, ◌∙◌, ap, subst, inl, inr, add-one}
 use Rattle.std.proofs.lemmas.Bool.{cases_eq, both_ways}
 use Rattle.lists.specs.Searches.{OnlyFails}
 use Rattle.lists.proofs.SearchFacts.{only_same}
@@ -17,7 +17,8 @@ use Rattle.schedule_laws.specs.Compliance.{can_cut}
 use Rattle.schedule_laws.specs.Tests.{is_segment_broken}
 use Rattle.schedule_laws.proofs.TestFacts.{segment_from, segment_to}
 use Rattle.audit.specs.Premises.{AreFitting}
-use Rattle.audit.specs.TickRules.{IsTick, Leaves}
+use Rattle.audit.specs.TickRules.{IsTick, Leaves, place_at, IsFirstPlace}
+use Rattle.audit.specs.declared.verdict.Place.{Place}
 
 -- where another may not be inside
 others_pass : (test : ℕ → Bool) (n : ℕ) (x : Option ℕ) (j k : ℕ) → OnlyFails test n x → (Leaves (Runs j) x → ⊥) →
@@ -63,23 +64,34 @@ module _ (m : CutMeaning) (sheet : SheetParts) (run : Run) (t : ℕ) (inside : t
       OnlyFails cut_next (length run.jobs) (Some j)
   inside_uncut j x is stays h b cut = (b, cut, (λ k c ne. others_cut j k x is stays h c ne))
 
-  left_at : (x : Option ℕ) (y : Tick) → tick_at run t ≡ y → OnlyFails cut_at (length run.jobs) x → Leaves y x →
-      IsTick (is_segment_broken m sheet run) run t
-  left_at None Off e h l = absurd l
-  left_at None Idle e h l = absurd l
-  left_at None (Runs k) e h l = absurd l
-  left_at (Some j) Off e h l = absurd l
-  left_at (Some j) Idle e h l = record { job = j; listed = h.0; passes = segment_to m sheet run t j (record { supplied = λ off. (let two = sym e ∙ off in cc); inside = h.1; other = λ r. (let two = sym e ∙ r in cc) }) }
-  left_at (Some j) (Runs k) e h l = record {
-    job = j;
-    listed = h.0;
-    passes = segment_to m sheet run t j (record { supplied = λ off. (let two = sym e ∙ off in cc); inside = h.1; other = λ r. l (same_job k j (tick_at run t) e r) });
-  }
+  none_left : (y : Tick) → Leaves y None → ⊥
+  none_left Off l = l
+  none_left Idle l = l
+  none_left (Runs k) l = l
+
+  left_inside : (j : ℕ) (y : Tick) → tick_at run t ≡ y → cut_at j ≡ false → Leaves y (Some j) →
+      is_segment_broken m sheet run t j ≡ true
+  left_inside j Off e h l = absurd l
+  left_inside j Idle e h l = segment_to m sheet run t j (record { supplied = λ off. (let two = sym e ∙ off in cc); inside = h; other = λ r. (let two = sym e ∙ r in cc) })
+  left_inside j (Runs k) e h l = segment_to m sheet run t j (record { supplied = λ off. (let two = sym e ∙ off in cc); inside = h; other = λ r. l (same_job k j (tick_at run t) e r) })
 
   -- a tick that leaves the job inside a segment
-  pub left_broken : (x : Option ℕ) → OnlyFails cut_at (length run.jobs) x → Leaves (tick_at run t) x →
-      IsTick (is_segment_broken m sheet run) run t
-  left_broken x h l = left_at x (tick_at run t) refl h l
+  pub left_place : (x : Option ℕ) (r : Option Place) → OnlyFails cut_at (length run.jobs) x → Leaves (tick_at run t) x →
+      MatchOption x (r ≡ None) (λ j. r ≡ Some (place_at t j)) →
+      ((s : ℕ) → s < t → IsTick (is_segment_broken m sheet run) run s → ⊥) → IsFirstPlace (is_segment_broken m sheet run) run r
+  left_place None r h l is before = absurd (none_left (tick_at run t) l)
+  left_place (Some j) r h l is before =
+      subst (IsFirstPlace (is_segment_broken m sheet run) run) (sym is) (
+        inside,
+        (
+          h.0,
+          left_inside j (tick_at run t) refl h.1 l,
+          (λ k c passes.
+              let listed = h.0 in
+              both_ways (cut_at k) (segment_from m sheet run t k passes).inside (h.2 k (omega arith) (λ e. omega arith))),
+        ),
+        before,
+      )
 
   leaves_at : (j : ℕ) (y : Tick) → y ≢ Off → y ≢ Runs j → Leaves y (Some j)
   leaves_at j Off on other = absurd (on refl)

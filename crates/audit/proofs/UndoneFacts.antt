@@ -1,5 +1,5 @@
 -- The first job of a task that is not done, from its place in the order of arrivals.
-use Rattle.std.proofs.Common.{◌≡◌, ℕ, ◌+◌, ◌<◌, ◌≤◌, List, length, get_or, replicate, Some, None, sym, ◌∙◌, ap, subst, inl, inr, arith}
+use Rattle.std.proofs.Common.{◌≡◌, ℕ, ◌+◌, ◌<◌, ◌≤◌, List, length, get_or, replicate, Option, Some, None, sym, ◌∙◌, ap, subst, inl, inr, arith}
 use Rattle.std.proofs.lemmas.Bool.{cases_lt, cases_eq}
 use Rattle.std.proofs.lemmas.List.{get_or-set_same, get_or-set_other, length-set, length-replicate, get_or-replicate}
 use Rattle.std.proofs.Math.ListN.{set}
@@ -8,6 +8,7 @@ use Rattle.run_model.specs.Runs.{job_at}
 use Rattle.run_model.proofs.ServiceFacts.{service_le}
 use Rattle.audit.specs.declared.arrivals.Arrival.{Arrival}
 use Rattle.audit.specs.ServiceCounts.{IsServed}
+use Rattle.audit.specs.TickRules.{IsListed}
 use Rattle.audit.specs.ArrivalOrder.{arrival_at, IsOrder}
 use Rattle.audit.specs.UndoneJobs.{IsLeft, IsFront, AreDoneBefore, ArePlaces, AreBelow, IsReadyAt, AreUndoneAt}
 
@@ -112,3 +113,8 @@ pub ready_with : (run : Run) (served : List ℕ) (order : List Arrival) (places 
     length others ≡ length places → IsReadyAt run served order places → ArePlaces run served order others →
     IsReadyAt run served order others
 ready_with run served order places others same ready past = record { count = ready.count; ordered = ready.ordered; tasks = subst (AreBelow run) (sym same) ready.tasks; past = past }
+
+pub front_listed : (run : Run) (served : List ℕ) (o : ℕ) (front : Option ℕ) → IsFront run served o front →
+    IsListed run front
+front_listed run served o None h = tt
+front_listed run served o (Some f) h = let left = h.0 in left.listed

@@ -47,3 +47,9 @@ pub record IsOrder (run : Run) (order : List Arrival) : Type 0 where
   pub complete : (k : ℕ) → k < length run.jobs → HasPlace order k
   pub ascending : (i j : ℕ) → i ≤ j → j < length order →
       IsNoLater (arrival_at order i).tick (arrival_at order i).release (arrival_at order j).tick (arrival_at order j).release
+
+-- the jobs in the order of their releases
+pub record IsReleaseOrder (run : Run) (order : List Arrival) : Type 0 where
+  pub listed : (i : ℕ) → i < length order → IsArrival run (arrival_at order i)
+  pub complete : (k : ℕ) → k < length run.jobs → HasPlace order k
+  pub ascending : (i j : ℕ) → i ≤ j → j < length order → (arrival_at order i).release ≤ (arrival_at order j).release

@@ -6,6 +6,7 @@ pub mod ServiceCounts
 pub mod ArrivalOrder
 pub mod Releases
 pub mod UndoneJobs
+pub mod Pending
 pub mod TickRules
 pub mod CutSums
 pub mod NotedResponses

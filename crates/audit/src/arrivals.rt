@@ -1,6 +1,6 @@
 //! The jobs in the order of their arrivals, and where these are equal of their releases.
 ghost use Rattle.std.specs.Prelude.{IfOk, length};
-ghost use Rattle.audit.specs.ArrivalOrder.{AreFirstArrivals, IsOrder};
+ghost use Rattle.audit.specs.ArrivalOrder.{AreFirstArrivals, IsOrder, IsReleaseOrder};
 ghost use Rattle.audit.specs.Premises.{IsSmall};
 
 use run_model::Run;
@@ -38,5 +38,15 @@ pub fn arrival_order(alloc: Global, run: &Run) -> Result<Vec<Arrival>, AllocErro
 {
     let mut order = listed_arrivals(alloc, run)?;
     order.sort_unstable();
+    Ok(order)
+}
+
+/// The jobs in the order of their releases.
+pub fn release_order(alloc: Global, run: &Run) -> Result<Vec<Arrival>, AllocError>
+    requires { IsSmall run.now }
+    ensures { IfOk result (λ v. IsReleaseOrder run.now v.items) }
+{
+    let mut order = listed_arrivals(alloc, run)?;
+    order.sort_unstable_by_key(|arrival| arrival.release);
     Ok(order)
 }

@@ -1,73 +1,80 @@
 //! The rule on idle ticks.
-ghost use Rattle.std.specs.Prelude.{◌≡◌, ◌<◌, ◌↔◌, ℕ, IfOk, IsTrue, length};
+ghost use Rattle.std.specs.Prelude.{◌≡◌, ◌<◌, IfOk, length, true};
 ghost use Rattle.lists.specs.Searches.{IsFirstBelow};
-ghost use Rattle.run_model.specs.Runs.{tick_at};
+ghost use Rattle.run_model.specs.Runs.{is_pending as is_pending_by};
 ghost use Rattle.schedule_laws.specs.Tests.{AreOf, is_idle_broken};
-ghost use Rattle.audit.specs.TickRules.{HasRelease, IsListed, IsWaiting, IsTick};
-ghost use Rattle.audit.specs.UndoneJobs.{AreUndone};
-ghost use Rattle.audit.specs.Premises.{IsSmall, AreReleased};
+ghost use Rattle.audit.specs.Pending.{IsSomePending};
+ghost use Rattle.audit.specs.TickRules.{IsFirstPlace};
+ghost use Rattle.audit.specs.Premises.{IsSmall};
+ghost use Rattle.audit.specs.ServiceCounts.{IsServed};
 
-use crate::undone::UndoneJobs;
+use crate::progress::Progress;
+use crate::verdict::Place;
+use policy::Policy;
 use run_model::{Run, Tick};
 use std::alloc::{AllocError, Global};
 use task_sheet::Sheet;
 
-/// Whether the job, if there is one, has been released by tick `t`.
-fn is_released(run: &Run, job: Option<u32>, t: u64) -> bool
-    requires { IsListed run.now job }
-    ensures { IsTrue result ↔ HasRelease run.now t job }
+/// Whether job `k` is pending at tick `t`, by its service.
+#[tactic(auto, using(schedule_laws::proofs::TestFacts::pending_is))]
+pub fn is_pending(run: &Run, served: &[u64], k: u32, t: u64) -> bool
+    requires job { k < length run.now.jobs }
+    requires served { IsServed run.now t served.now }
+    ensures { result ≡ is_pending_by run.now k t }
 {
-    match job {
-        Some(k) => run.jobs.as_slice()[k as usize].release <= t,
-        None => false,
-    }
+    let job = &run.jobs.as_slice()[k as usize];
+    job.release <= t && served[k as usize] < job.cost
 }
 
-/// Whether some job is pending at tick `t`.
-fn is_waiting(run: &Run, undone: &mut UndoneJobs, t: u64) -> bool
+/// The least job that is pending at tick `t`.
+fn first_pending(run: &Run, served: &[u64], t: u64) -> Option<u32>
     requires small { IsSmall run.now }
-    requires released { AreReleased run.now }
-    requires undone { AreUndone run.now t undone.old }
-    ensures waiting { IsTrue result ↔ IsWaiting run.now t }
-    ensures undone { AreUndone run.now t undone.new }
+    requires served { IsServed run.now t served.now }
+    ensures { IsFirstBelow (λ k. is_pending_by run.now k t ≡ true) (length run.now.jobs) result }
 {
-    for o in 0..undone.tasks() {
-        if is_released(run, undone.front(run, o), t) {
-            return true;
+    for k in 0..run.jobs.len() as u32 {
+        if is_pending(run, served, k, t) {
+            return Some(k);
         }
     }
-    false
+    None
 }
 
-/// Whether tick `t` is idle while some job is pending.
-fn breaks_idling(run: &Run, undone: &mut UndoneJobs, t: u64) -> bool
+/// The least job that is pending at tick `t`, where that is idle.
+fn idle_job(run: &Run, served: &[u64], first: Option<u32>, t: u64) -> Option<u32>
     requires small { IsSmall run.now }
-    requires released { AreReleased run.now }
     requires tick { t < length run.now.ticks }
-    requires undone { AreUndone run.now t undone.old }
-    ensures broken { IsTrue result ↔ IsTick (is_idle_broken run.now) run.now t }
-    ensures undone { AreUndone run.now t undone.new }
+    requires served { IsServed run.now t served.now }
+    requires first { IsSomePending run.now t first }
+    ensures { IsFirstBelow (λ k. is_idle_broken run.now t k ≡ true) (length run.now.jobs) result }
 {
-    match run.ticks.as_slice()[t as usize] {
-        Tick::Idle => is_waiting(run, undone, t),
-        Tick::Off | Tick::Runs(_) => false,
+    let Tick::Idle = run.ticks.as_slice()[t as usize] else {
+        return None;
+    };
+    match first {
+        Some(_) => first_pending(run, served, t),
+        None => None,
     }
 }
 
-/// The least idle tick at which some job is pending.
-pub fn idle_tick(alloc: Global, sheet: &Sheet, run: &Run) -> Result<Option<u64>, AllocError>
+/// The first idle tick at which some job is pending, and the least such job.
+pub fn idle_place<P: Policy>(
+    alloc: Global,
+    sheet: &Sheet,
+    run: &Run,
+) -> Result<Option<Place>, AllocError>
     requires small { IsSmall run.now }
-    requires released { AreReleased run.now }
     requires tasks { AreOf sheet.now run.now }
-    ensures { IfOk result (IsFirstBelow (IsTick (is_idle_broken run.now) run.now)
-        (length run.now.ticks)) }
+    ensures { IfOk result (IsFirstPlace (is_idle_broken run.now) run.now) }
 {
-    let mut undone = UndoneJobs::new(alloc, run, sheet.len())?;
+    let mut progress = Progress::new(alloc, run)?;
     for t in 0..run.ticks.len() as u64 {
-        if breaks_idling(run, &mut undone, t) {
-            return Ok(Some(t));
+        progress.let_in::<P>(sheet, run, t)?;
+        let first = progress.first::<P>(sheet, run, t);
+        if let Some(job) = idle_job(run, &progress.served, first, t) {
+            return Ok(Some(Place { tick: t, job }));
         }
-        undone.serve(run, t);
+        progress.serve::<P>(sheet, run, t);
     }
     Ok(None)
 }

@@ -1,7 +1,7 @@
 //! The rules on jobs: whether they fit, whether they are released in time, and whether too many
 //! arrive.
 ghost use Rattle.std.specs.Prelude.{◌≡◌, IfOk, None};
-ghost use Rattle.schedule_laws.specs.Tests.{AreOf, AreUncrowded};
+ghost use Rattle.schedule_laws.specs.Tests.{AreOf};
 ghost use Rattle.audit.specs.Faults.{unfit_in, unreleased_in, crowded_in};
 ghost use Rattle.audit.specs.Premises.{IsSmall, AreFitting, AreReleased};
 

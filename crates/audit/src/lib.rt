@@ -8,6 +8,7 @@ mod jobs;
 mod judging;
 mod laws;
 mod priorities;
+mod progress;
 mod releases;
 mod responses;
 mod segments;

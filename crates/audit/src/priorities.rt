@@ -1,113 +1,153 @@
 //! The rule on priorities.
-ghost use Rattle.std.specs.Prelude.{◌≡◌, ◌<◌, ◌↔◌, ℕ, IfOk, IsTrue, length};
+ghost use Rattle.std.specs.Prelude.{◌≡◌, ◌<◌, ◌&&◌, IfOk, length, not, true};
 ghost use Rattle.lists.specs.Searches.{IsFirstBelow};
+ghost use Rattle.policy.specs.Keys.{key_le};
 ghost use Rattle.preemption.specs.CutLaws.{Serves};
-ghost use Rattle.run_model.specs.Runs.{job_at, tick_at};
-ghost use Rattle.run_model.specs.declared.run.Tick.TheVariants.{Runs};
+ghost use Rattle.run_model.specs.Runs.{is_pending as is_pending_by, job_at};
 ghost use Rattle.schedule_laws.specs.Tests.{AreOf, is_priority_broken};
+ghost use Rattle.urgency.specs.Queues.{IsMostUrgent};
 ghost use Rattle.audit.specs.CutSums.{AreSums};
-ghost use Rattle.audit.specs.TickRules.{IsMoreUrgent, IsListed, IsOvertaken, IsTick};
-ghost use Rattle.audit.specs.UndoneJobs.{AreUndone};
-ghost use Rattle.audit.specs.Premises.{IsSmall, AreReleased};
+ghost use Rattle.audit.specs.TickRules.{IsFirstPlace, is_urgent_by};
+ghost use Rattle.audit.specs.Premises.{IsSmall};
+ghost use Rattle.audit.specs.ServiceCounts.{IsServed};
 
 use crate::cuts::can_cut_job;
-use crate::undone::UndoneJobs;
+use crate::idling::is_pending;
+use crate::progress::Progress;
+use crate::verdict::Place;
 use policy::{Key, Policy};
 use preemption::Tabled;
 use run_model::{Run, Tick};
 use std::alloc::{AllocError, Global};
 use task_sheet::Sheet;
 
-/// Whether the job, if there is one, has been released by tick `t` and is more urgent than the key.
-fn is_more_urgent<P: Policy>(sheet: &Sheet, run: &Run, key: Key, job: Option<u32>, t: u64) -> bool
+/// Whether job `k` is more urgent than the key.
+fn is_more_urgent<P: Policy>(sheet: &Sheet, run: &Run, key: Key, k: u32) -> bool
     requires small { IsSmall run.now }
     requires tasks { AreOf sheet.now run.now }
-    requires listed { IsListed run.now job }
-    ensures { IsTrue result ↔ IsMoreUrgent P.meaning sheet.now run.now key t job }
+    requires job { k < length run.now.jobs }
+    ensures { result ≡ not (key_le key (P.meaning.key sheet.now (job_at run.now k))) }
 {
-    match job {
-        Some(k) => {
-            let job = &run.jobs.as_slice()[k as usize];
-            job.release <= t && !key.is_at_most(P::key(sheet, job))
-        }
-        None => false,
-    }
+    !key.is_at_most(P::key(sheet, &run.jobs.as_slice()[k as usize]))
 }
 
-/// Whether some job is pending at tick `t` and more urgent than the key.
-fn is_overtaken<P: Policy>(
+/// Whether job `k` is pending at tick `t` and more urgent than the key.
+fn is_urgent<P: Policy>(sheet: &Sheet, run: &Run, served: &[u64], key: Key, k: u32, t: u64) -> bool
+    requires small { IsSmall run.now }
+    requires tasks { AreOf sheet.now run.now }
+    requires job { k < length run.now.jobs }
+    requires served { IsServed run.now t served.now }
+    ensures { result ≡ is_urgent_by P.meaning sheet.now run.now key t k }
+{
+    is_pending(run, served, k, t) && is_more_urgent::<P>(sheet, run, key, k)
+}
+
+/// The least job that is pending at tick `t` and more urgent than the key.
+fn first_urgent<P: Policy>(
     sheet: &Sheet,
     run: &Run,
-    undone: &mut UndoneJobs,
+    served: &[u64],
     key: Key,
     t: u64,
-) -> bool
+) -> Option<u32>
     requires small { IsSmall run.now }
-    requires released { AreReleased run.now }
     requires tasks { AreOf sheet.now run.now }
-    requires undone { AreUndone run.now t undone.old }
-    ensures overtaken { IsTrue result ↔ IsOvertaken P.meaning sheet.now run.now key t }
-    ensures undone { AreUndone run.now t undone.new }
+    requires served { IsServed run.now t served.now }
+    ensures { IsFirstBelow (λ k. is_urgent_by P.meaning sheet.now run.now key t k ≡ true)
+        (length run.now.jobs) result }
 {
-    let _valid = sheet.len();
-    for o in 0..undone.tasks() {
-        let front = undone.front(run, o);
-        if is_more_urgent::<P>(sheet, run, key, front, t) {
-            return true;
+    for k in 0..run.jobs.len() as u32 {
+        if is_urgent::<P>(sheet, run, served, key, k, t) {
+            return Some(k);
         }
     }
-    false
+    None
 }
 
-/// Whether tick `t` runs, where it can be cut, a job less urgent than a pending one.
-fn breaks_priorities<P: Policy, M: Tabled>(
+/// The least job that is pending at tick `t` and more urgent than the key, where `first` is the most
+/// urgent of the pending ones.
+fn urgent_job<P: Policy>(
+    sheet: &Sheet,
+    run: &Run,
+    served: &[u64],
+    first: Option<u32>,
+    key: Key,
+    t: u64,
+) -> Option<u32>
+    requires small { IsSmall run.now }
+    requires tasks { AreOf sheet.now run.now }
+    requires served { IsServed run.now t served.now }
+    requires first { IsMostUrgent P.meaning sheet.now run.now.jobs
+        (λ k. is_pending_by run.now k t) first }
+    ensures { IsFirstBelow (λ k. is_urgent_by P.meaning sheet.now run.now key t k ≡ true)
+        (length run.now.jobs) result }
+{
+    match first {
+        Some(k) => {
+            if is_more_urgent::<P>(sheet, run, key, k) {
+                first_urgent::<P>(sheet, run, served, key, t)
+            } else {
+                None
+            }
+        }
+        None => None,
+    }
+}
+
+/// The least pending job that is more urgent than the one that tick `t` runs and that can be cut.
+fn overtaken_job<P: Policy, M: Tabled>(
     sheet: &Sheet,
     run: &Run,
     sums: &[Vec<u64>],
-    undone: &mut UndoneJobs,
+    served: &[u64],
+    first: Option<u32>,
     t: u64,
-) -> bool
+) -> Option<u32>
     requires small { IsSmall run.now }
-    requires released { AreReleased run.now }
     requires tick { t < length run.now.ticks }
     requires tasks { AreOf sheet.now run.now }
-    requires served { Serves M.cuts sheet.now }
+    requires kind { Serves M.cuts sheet.now }
     requires sums { AreSums run.now sums.now }
-    requires undone { AreUndone run.now t undone.old }
-    ensures broken { IsTrue result ↔
-        IsTick (is_priority_broken P.meaning M.cuts sheet.now run.now) run.now t }
-    ensures undone { AreUndone run.now t undone.new }
+    requires served { IsServed run.now t served.now }
+    requires first { IsMostUrgent P.meaning sheet.now run.now.jobs
+        (λ k. is_pending_by run.now k t) first }
+    ensures { IsFirstBelow (λ k. is_priority_broken P.meaning M.cuts sheet.now run.now t k ≡ true)
+        (length run.now.jobs) result }
 {
     let Tick::Runs(k) = run.ticks.as_slice()[t as usize] else {
-        return false;
+        return None;
     };
-    let job = &run.jobs.as_slice()[k as usize];
-    can_cut_job::<M>(sheet, run, sums, k, undone.served[k as usize])
-        && is_overtaken::<P>(sheet, run, undone, P::key(sheet, job), t)
+    if !can_cut_job::<M>(sheet, run, sums, k, served[k as usize]) {
+        return None;
+    }
+    let key = P::key(sheet, &run.jobs.as_slice()[k as usize]);
+    urgent_job::<P>(sheet, run, served, first, key, t)
 }
 
-/// The least tick that runs, where it can be cut, a job less urgent than a pending one.
-pub fn priority_tick<P: Policy, M: Tabled>(
+/// The first tick that runs, where it can be cut, a job less urgent than a pending one, and the least
+/// such pending job.
+pub fn priority_place<P: Policy, M: Tabled>(
     alloc: Global,
     sheet: &Sheet,
     run: &Run,
     sums: &[Vec<u64>],
-) -> Result<Option<u64>, AllocError>
+) -> Result<Option<Place>, AllocError>
     requires small { IsSmall run.now }
-    requires released { AreReleased run.now }
     requires tasks { AreOf sheet.now run.now }
     requires served { Serves M.cuts sheet.now }
     requires sums { AreSums run.now sums.now }
-    ensures { IfOk result (IsFirstBelow
-        (IsTick (is_priority_broken P.meaning M.cuts sheet.now run.now) run.now)
-        (length run.now.ticks)) }
+    ensures { IfOk result
+        (IsFirstPlace (is_priority_broken P.meaning M.cuts sheet.now run.now) run.now) }
 {
-    let mut undone = UndoneJobs::new(alloc, run, sheet.len())?;
+    let mut progress = Progress::new(alloc, run)?;
     for t in 0..run.ticks.len() as u64 {
-        if breaks_priorities::<P, M>(sheet, run, sums, &mut undone, t) {
-            return Ok(Some(t));
+        progress.let_in::<P>(sheet, run, t)?;
+        let first = progress.first::<P>(sheet, run, t);
+        let served = &progress.served;
+        if let Some(job) = overtaken_job::<P, M>(sheet, run, sums, served, first, t) {
+            return Ok(Some(Place { tick: t, job }));
         }
-        undone.serve(run, t);
+        progress.serve::<P>(sheet, run, t);
     }
     Ok(None)
 }

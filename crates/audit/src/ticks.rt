@@ -2,20 +2,19 @@
 ghost use Rattle.std.specs.Prelude.{◌≡◌, ◌+◌, ◌≤◌, IfOk, MatchOption, None, Some, length};
 ghost use Rattle.preemption.specs.CutLaws.{Serves};
 ghost use Rattle.supply.specs.Promises.{sbf_of};
-ghost use Rattle.schedule_laws.specs.Tests.{AreOf, is_idle_broken, is_segment_broken, is_priority_broken};
+ghost use Rattle.schedule_laws.specs.Tests.{AreOf};
 ghost use Rattle.audit.specs.CutSums.{AreSums};
 ghost use Rattle.audit.specs.Faults.{fault_at, invalid_in, short_in, idle_in, segment_in, priority_in};
-ghost use Rattle.audit.specs.Premises.{IsSmall, AreFitting, AreReleased, AreValid};
+ghost use Rattle.audit.specs.Premises.{IsSmall, AreFitting, AreValid};
 
-use crate::idling::idle_tick;
-use crate::priorities::priority_tick;
-use crate::segments::segment_tick;
+use crate::idling::idle_place;
+use crate::priorities::priority_place;
+use crate::segments::segment_place;
 use crate::validity::invalid_tick;
-use crate::verdict::{Fault, Rule};
+use crate::verdict::{Fault, Place, Rule};
 use policy::Policy;
 use preemption::Tabled;
 use run_model::{Run, Tick};
-use schedule_laws::{idle_broken, priority_broken, segment_broken};
 use std::alloc::{AllocError, Global};
 use task_sheet::Sheet;
 use windows::first_short;
@@ -56,29 +55,30 @@ pub fn first_shortage(alloc: Global, sheet: &Sheet, run: &Run) -> Result<Option<
     }))
 }
 
-/// The fault of a job at tick `t`, if there is one.
-fn fault_of(rule: Rule, job: Option<u32>, t: u64) -> Option<Fault>
-    ensures { MatchOption job (result ≡ None) (λ k. result ≡ Some (fault_at rule k t)) }
+/// The fault at a place, if there is one.
+fn fault_of(rule: Rule, place: Option<Place>) -> Option<Fault>
+    ensures { MatchOption place (result ≡ None) (λ w. result ≡ Some (fault_at rule w.job w.tick)) }
 {
-    let job = job?;
+    let place = place?;
     Some(Fault {
         rule,
-        job: Some(job),
-        tick: Some(t),
+        job: Some(place.job),
+        tick: Some(place.tick),
     })
 }
 
 /// The first idle tick at which some job is pending.
-pub fn first_idling(alloc: Global, sheet: &Sheet, run: &Run) -> Result<Option<Fault>, AllocError>
+pub fn first_idling<P: Policy>(
+    alloc: Global,
+    sheet: &Sheet,
+    run: &Run,
+) -> Result<Option<Fault>, AllocError>
     requires small { IsSmall run.now }
     requires tasks { AreOf sheet.now run.now }
-    requires released { AreReleased run.now }
     ensures { IfOk result (λ f. f ≡ idle_in run.now) }
 {
-    match idle_tick(alloc, sheet, run)? {
-        Some(t) => Ok(fault_of(Rule::Idle, idle_broken(run, t), t)),
-        None => Ok(None),
-    }
+    let place = idle_place::<P>(alloc, sheet, run)?;
+    Ok(fault_of(Rule::Idle, place))
 }
 
 /// The first supplied tick that does not run a job inside a segment.
@@ -94,10 +94,8 @@ pub fn first_segment<M: Tabled>(
     requires sums { AreSums run.now sums.now }
     ensures { IfOk result (λ f. f ≡ segment_in M.cuts sheet.now run.now) }
 {
-    match segment_tick::<M>(alloc, sheet, run, sums)? {
-        Some(t) => Ok(fault_of(Rule::Segment, segment_broken::<M>(sheet, run, t), t)),
-        None => Ok(None),
-    }
+    let place = segment_place::<M>(alloc, sheet, run, sums)?;
+    Ok(fault_of(Rule::Segment, place))
 }
 
 /// The first tick that runs, where it can be cut, a job less urgent than a pending one.
@@ -111,11 +109,8 @@ pub fn first_overtaken<P: Policy, M: Tabled>(
     requires tasks { AreOf sheet.now run.now }
     requires served { Serves M.cuts sheet.now }
     requires sums { AreSums run.now sums.now }
-    requires released { AreReleased run.now }
     ensures { IfOk result (λ f. f ≡ priority_in P.meaning M.cuts sheet.now run.now) }
 {
-    match priority_tick::<P, M>(alloc, sheet, run, sums)? {
-        Some(t) => Ok(fault_of(Rule::Priority, priority_broken::<P, M>(sheet, run, t), t)),
-        None => Ok(None),
-    }
+    let place = priority_place::<P, M>(alloc, sheet, run, sums)?;
+    Ok(fault_of(Rule::Priority, place))
 }

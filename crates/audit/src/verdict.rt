@@ -31,6 +31,13 @@ pub struct Fault {
     pub tick: Option<u64>,
 }
 
+/// A job at a tick.
+#[derive(Clone, Copy)]
+pub struct Place {
+    pub tick: u64,
+    pub job: u32,
+}
+
 /// What is seen of the jobs of a task.
 #[derive(Clone, Copy, Debug, PartialEq, Eq)]
 pub struct Seen {

@@ -151,6 +151,45 @@ const OF_SEGMENTS: [Row; 3] = [
     ),
 ];
 
+/// A task whose jobs are released up to 3 ticks late, and of which two may arrive at once.
+const LATE: &str = "
+policy = 'fp'
+task = [{ name = 'a', cost = 1, deadline = 9, priority = 0, jitter = 3, curve = { horizon = 10, steps = [[1, 2]] } }]";
+
+const OF_LATE: [Row; 7] = [
+    (
+        "poet-run 2\njobs 2 ticks 4\nj 0 0 3 1\nj 0 0 0 1\nrun 1 1\nidle 2\nrun 0 1\nend\n",
+        None,
+    ),
+    // The second job waits, though the first one has not been released.
+    (
+        "poet-run 2\njobs 2 ticks 1\nj 0 0 3 1\nj 0 0 0 1\nidle 1\nend\n",
+        Some((Rule::Idle, Some(1), Some(0))),
+    ),
+    (
+        "poet-run 2\njobs 2 ticks 0\nj 0 0 3 1\nj 0 0 4 1\nend\n",
+        Some((Rule::Release, Some(1), None)),
+    ),
+    (
+        "poet-run 2\njobs 1 ticks 0\nj 0 1 0 1\nend\n",
+        Some((Rule::Release, Some(0), None)),
+    ),
+    // The second job arrives earlier, and is released later.
+    (
+        "poet-run 2\njobs 2 ticks 0\nj 0 1 2 1\nj 0 0 3 1\nend\n",
+        Some((Rule::Release, Some(0), None)),
+    ),
+    // Releases are judged after what fits, and before what runs.
+    (
+        "poet-run 2\njobs 2 ticks 1\nj 0 0 4 1\nj 0 0 0 2\nrun 0 1\nend\n",
+        Some((Rule::Fit, Some(1), None)),
+    ),
+    (
+        "poet-run 2\njobs 1 ticks 1\nj 0 0 4 1\nrun 0 1\nend\n",
+        Some((Rule::Release, Some(0), None)),
+    ),
+];
+
 /// The verdict on the run of this text.
 fn verdict_on(alloc: Global, sheet: &str, text: &str) -> Result<AuditVerdict, Fail> {
     let sheet = sheet_of(alloc, sheet)?;
@@ -178,6 +217,11 @@ fn first_rules_broken(rt: HostRuntime) -> Result<(), Fail> {
     assert_rows(&rt, alloc, HALF_SUPPLIED, &OF_HALF_SUPPLIED)?;
     assert_rows(&rt, alloc, FIXED, &OF_SEGMENTS)?;
     assert_rows(&rt, alloc, FLOATING, &OF_SEGMENTS)
+}
+
+#[test]
+fn late_releases(rt: HostRuntime) -> Result<(), Fail> {
+    assert_rows(&rt, rt.alloc(), LATE, &OF_LATE)
 }
 
 const SEEN_OF_A: Seen = Seen {

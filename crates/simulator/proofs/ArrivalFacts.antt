@@ -35,13 +35,13 @@ use Rattle.windows.specs.Arrivals.{allowance_in, admits_in, IsPast}
 use Rattle.windows.specs.Crowds.{AreArrivals}
 use Rattle.windows.specs.Supplied.{AreCounts, ArePromised}
 use Rattle.simulator.proofs.SameAnswers.{allowance_same, counts_job}
-use Rattle.simulator.specs.declared.simulation.Rank.{Rank}
+use Rattle.urgency.specs.declared.rank.Rank.{Rank}
 use Rattle.simulator.specs.declared.simulation.Due.{Due}
 use Rattle.simulator.specs.declared.refusal.SimRefusal.{SimRefusal}
 use Rattle.simulator.specs.declared.refusal.SimRefusal.TheVariants.{Jobs, Segments, Memory}
 use Rattle.simulator.specs.Simulations.{IsRefusal}
 use Rattle.simulator.specs.Loads.{IsLoadRefusal}
-use Rattle.simulator.specs.Ranks.{rank_at}
+use Rattle.urgency.specs.Ranks.{rank_at}
 use Rattle.simulator.specs.SimulationState.{IsKeptBy, IsTakenUp, IsWithin, IsNew, IsKnown, HasArrivals, HasReleases, HasCuts, IsTabled, world_by}
 use Rattle.simulator.proofs.LimitFacts.{segments_more, too_many_jobs, too_many_segments, refusal_on}
 use Rattle.simulator.proofs.WindowFacts.{has_arrivals_more, past_is, promised_is}

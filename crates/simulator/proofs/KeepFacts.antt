@@ -23,9 +23,9 @@ use Rattle.schedule_laws.specs.Compliance.{can_cut}
 use Rattle.simulated_run.specs.SimulatedRun.{World, with_job, with_tick, inside_segment}
 use Rattle.simulated_run.proofs.GrowthFacts.{length_more}
 use Rattle.simulated_run.proofs.RunFacts.{job_kept, job_new, jobs_more, tick_kept, tick_new, ticks_more, service_new, service_unlisted}
-use Rattle.simulator.specs.declared.simulation.Rank.{Rank}
+use Rattle.urgency.specs.declared.rank.Rank.{Rank}
 use Rattle.simulator.specs.declared.simulation.Due.{Due}
-use Rattle.simulator.specs.Ranks.{rank_at}
+use Rattle.urgency.specs.Ranks.{rank_at}
 use Rattle.simulator.specs.SimulationState.{IsQueue, IsTakenUp, left_at, release_at, IsKnown, IsKeptAt, IsKeptBy, CanRun}
 use Rattle.simulator.proofs.LimitFacts.{within_more}
 use Rattle.simulator.proofs.QueueFacts.{queue_push, Tells}

@@ -1,9 +1,8 @@
 -- The queue of the jobs that are released and not done, and those to come.
-use Rattle.std.proofs.Common.{◌≡◌, ◌≢◌, ℕ, ℤ, suc, ◌<◌, ◌≤◌, Bool, true, false, cond, List, [], ◌∷◌, ◌++◌, length, Some, None, IsSome, refl, sym, ◌∙◌, ap, subst, inl, inr, arith, get_or}
-use Rattle.std.specs.Cmp.{IsTotalOrder}
+use Rattle.std.proofs.Common.{◌≡◌, ◌≢◌, ℕ, suc, ◌<◌, ◌≤◌, Bool, true, false, cond, List, [], ◌∷◌, ◌++◌, length, Some, None, IsSome, refl, sym, ◌∙◌, ap, subst, inl, inr, arith, get_or}
 use Rattle.std.specs.declared.cmp.Ordering.{Ordering}
 use Rattle.std.specs.declared.cmp.Ordering.TheVariants.{Less, Equal, Greater}
-use Rattle.std.specs.Ordering.{is_eq, is_gt, is_lt, nat_cmp, int_cmp, ordering_then, ordering_reverse}
+use Rattle.std.specs.Ordering.{is_gt, is_lt, nat_cmp, ordering_then, ordering_reverse}
 use Rattle.std.specs.BTreeMap.{BTreeMap, get, Updates, IsLowerBound, is_at}
 use Rattle.std.specs.BTreeSet.{BTreeSet, contains, Updates as UpdatesDue, IsLowerBound as FirstKey}
 use Rattle.std.specs.Map.{lookup}
@@ -11,8 +10,6 @@ use Rattle.std.specs.Option.{is_some}
 use Rattle.std.proofs.Math.ListN.{set}
 use Rattle.std.proofs.lemmas.Bool.{cases_Bool, cases_lt, cases_eq}
 use Rattle.std.proofs.lemmas.Bool.Decides.{nat_tests}
-use Rattle.std.proofs.lemmas.Int.{ints}
-use Rattle.std.proofs.lemmas.Cmp.{then_total, on_total, nat_cmp_total, int_cmp_total, tied_itself}
 use Rattle.std.proofs.lemmas.List.{get_or_append_left, get_or_at, get_or-set_same, get_or-set_other, nil_from_length}
 use Rattle.lists.proofs.SearchFacts.{best_some, best_none}
 use Rattle.task_sheet.specs.SheetParts.{SheetParts}
@@ -24,51 +21,14 @@ use Rattle.run_model.proofs.PendingFacts.{pending_from}
 use Rattle.simulated_run.specs.SimulatedRun.{World, most_urgent, comes_before}
 use Rattle.simulated_run.proofs.GrowthFacts.{length_more}
 use Rattle.simulated_run.proofs.OrderFacts.{comes_before_is}
-use Rattle.simulator.specs.declared.simulation.Rank.{Rank}
+use Rattle.urgency.specs.declared.rank.Rank.{Rank}
 use Rattle.simulator.specs.declared.simulation.Due.{Due}
-use Rattle.simulator.specs.Ranks.{rank_at, rank_of, rank_cmp, due_of, due_cmp}
+use Rattle.urgency.specs.Ranks.{rank_at, rank_of, rank_cmp}
+use Rattle.simulator.specs.Dues.{due_of, due_cmp}
 use Rattle.simulator.specs.SimulationState.{IsEntry, IsToCome, IsQueue, IsTakenUp, IsTakenOut, NoneIsDue, left_at, release_at}
+use Rattle.urgency.proofs.RankFacts.{rank_total, eq_tells, then_equal, equal_nat, same_rank, same_entry, itself, apart}
 
 -- ranks
-
-pub rank_total : IsTotalOrder rank_cmp
-rank_total =
-    then_total (on_total (λ (r : Rank). r.high) int_cmp_total)
-    (then_total (on_total (λ (r : Rank). r.low) int_cmp_total)
-    (then_total (on_total (λ (r : Rank). r.task) nat_cmp_total) (then_total (on_total (λ (r : Rank). r.arrival) nat_cmp_total) (on_total (λ (r : Rank). r.number) nat_cmp_total))))
-
-eq_tells : (o : Ordering) → is_eq o ≡ true → o ≡ Equal
-eq_tells Less h = absurd (cc)
-eq_tells Equal h = refl
-eq_tells Greater h = absurd (cc)
-
-then_equal : (o p : Ordering) → ordering_then o p ≡ Equal → (o ≡ Equal) × (p ≡ Equal)
-then_equal Less p h = absurd (cc)
-then_equal Equal p h = (refl, h)
-then_equal Greater p h = absurd (cc)
-
-equal_nat : (a b : ℕ) → nat_cmp a b ≡ Equal → a ≡ b
-equal_nat a b h = grind (arith, nat_tests)
-
-equal_int : (a b : ℤ) → int_cmp a b ≡ Equal → a ≡ b
-equal_int a b h = grind (arith, ints)
-
-abbrev rank : ℤ → ℤ → ℕ → ℕ → ℕ → Rank
-rank high low task arrival number = record { high = high; low = low; task = task; arrival = arrival; number = number }
-
-rank_by_parts : (a b c d : ℤ) (e f g h i j : ℕ) → a ≡ c → b ≡ d → e ≡ h → f ≡ i → g ≡ j → rank a b e f g ≡ rank c d h i j
-rank_by_parts a b c d e f g h i j k l m n o = cc
-
-same_rank : (a b : Rank) → rank_cmp a b ≡ Equal → a ≡ b
-same_rank a b h =
-    let high = then_equal (int_cmp a.high b.high) _ h in
-    let low = then_equal (int_cmp a.low b.low) _ high.1 in
-    let task = then_equal (nat_cmp a.task b.task) _ low.1 in
-    let arrival = then_equal (nat_cmp a.arrival b.arrival) _ task.1 in
-    rank_by_parts _ _ _ _ _ _ _ _ _ _ (equal_int _ _ high.0) (equal_int _ _ low.0) (equal_nat _ _ task.0) (equal_nat _ _ arrival.0) (equal_nat _ _ arrival.1)
-
-same_entry : (a b : Rank) → is_at (rank_cmp a) b ≡ true → a ≡ b
-same_entry a b h = same_rank a b (eq_tells (rank_cmp a b) h)
 
 by_order : (o p : Ordering) → is_gt o ≡ false → o ≢ Equal → p ≡ ordering_reverse o → (is_lt o ≡ true) × (is_lt p ≡ false)
 by_order Less p g ne e = (refl, ap is_lt e)
@@ -105,13 +65,6 @@ pub none_due : (t : ℕ) (coming : BTreeSet Due) (d : Due) → FirstKey due_cmp 
 none_due t coming d least h q there = omega (arith, release_le d.release q.release _ (least q there), h)
 
 module _ (p : PolicyMeaning) (sheet : SheetParts) where
-  -- other numbers, other ranks
-  apart : (jobs : List Job) (r : Rank) (k : ℕ) → r.number ≢ k → is_at (rank_cmp r) (rank_of p sheet jobs k) ≡ false
-  apart jobs r k ne = elim (cases_Bool (is_at (rank_cmp r) (rank_of p sheet jobs k))) [
-    | inr f ↦ f
-    | inl e ↦ absurd (ne (ap (λ (q : Rank). q.number) (same_entry r (rank_of p sheet jobs k) e)))
-  ]
-
   rank_kept : (jobs : List Job) (j : Job) (k : ℕ) → k < length jobs → rank_of p sheet (jobs ++ j ∷ []) k ≡ rank_of p sheet jobs k
   rank_kept jobs j k h = ap (λ (x : Job). rank_at p sheet x k) (get_or_append_left jobs (j ∷ []) no_job k h)
 
@@ -179,7 +132,7 @@ module _ (p : PolicyMeaning) (sheet : SheetParts) where
             | inl b ↦ elim (q.complete k (omega arith) (omega (arith, l, left_old k b))) [
               | inl there ↦
                   let same : rank_of p sheet jobs' k ≡ rank_of p sheet jobs k = rank_kept jobs j k (omega arith) in
-                  inl (ap (λ (x : Rank). get rank_cmp queue' x) same ∙ (up.2 (rank_of p sheet jobs k) (apart jobs r k (λ e. omega arith)) ∙ there))
+                  inl (ap (λ (x : Rank). get rank_cmp queue' x) same ∙ (up.2 (rank_of p sheet jobs k) (apart p sheet jobs r k (λ e. omega arith)) ∙ there))
               | inr there ↦ inr (ap (λ (x : Due). contains due_cmp coming x) (due_kept jobs j k (omega arith)) ∙ there)
             ]
             | inr b ↦
@@ -281,7 +234,7 @@ module _ (p : PolicyMeaning) (sheet : SheetParts) where
             waits = elim (cases_eq k i) [
               | inr ne ↦ omega (arith, old.waits, get_or-set_other left i k 0 0 ne)
               | inl same ↦
-                  let r : is_at (rank_cmp s) s ≡ true = ap is_eq (tied_itself rank_total s) in
+                  let r : is_at (rank_cmp s) s ≡ true = itself s in
                   let t : is_at (rank_cmp (rank_of p sheet jobs k)) s ≡ true = subst (λ (x : Rank). is_at (rank_cmp x) s ≡ true) old.rank r in
                   let u : is_at (rank_cmp (rank_of p sheet jobs i)) s ≡ true = subst (λ (x : ℕ). is_at (rank_cmp (rank_of p sheet jobs x)) s ≡ true) same t in
                   absurd (cc)
@@ -296,7 +249,7 @@ module _ (p : PolicyMeaning) (sheet : SheetParts) where
     complete = λ k h m. elim (cases_eq k i) [
       | inl e ↦ absurd (omega (arith, m, ap (left_at (set left i 0)) e, get_or-set_same left i 0 0 b))
       | inr ne ↦ elim (q.complete k h (omega (arith, m, get_or-set_other left i k 0 0 ne))) [
-        | inl there ↦ inl (up.2 (rank_of p sheet jobs k) (apart jobs (rank_of p sheet jobs i) k (λ e. ne (sym e))) ∙ there)
+        | inl there ↦ inl (up.2 (rank_of p sheet jobs k) (apart p sheet jobs (rank_of p sheet jobs i) k (λ e. ne (sym e))) ∙ there)
         | inr there ↦ inr there
       ]
     ];
@@ -328,7 +281,7 @@ module _ (p : PolicyMeaning) (sheet : SheetParts) where
         complete = λ k h l. elim (cases_eq k d.number) [
           | inl e ↦ inl (subst (λ i. get rank_cmp queue' (rank_of p sheet jobs i) ≡ Some i) (sym e) up.1)
           | inr ne ↦ elim (q.complete k h l) [
-            | inl there ↦ inl (up.2 (rank_of p sheet jobs k) (apart jobs r k (λ e. ne (sym e))) ∙ there)
+            | inl there ↦ inl (up.2 (rank_of p sheet jobs k) (apart p sheet jobs r k (λ e. ne (sym e))) ∙ there)
             | inr there ↦ inr (due_stays coming coming' d (due_of jobs k) false out.gone (λ e. ne (sym e)) ∙ there)
           ]
         ];

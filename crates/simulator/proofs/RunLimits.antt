@@ -23,7 +23,7 @@ use Rattle.run_text.specs.Text.{IsSegment, IsJob, IsTickOf, IsWithinLimits}
 use Rattle.std.specs.BTreeMap.{BTreeMap}
 use Rattle.std.specs.BTreeSet.{BTreeSet}
 use Rattle.std.proofs.Common.{Option}
-use Rattle.simulator.specs.declared.simulation.Rank.{Rank}
+use Rattle.urgency.specs.declared.rank.Rank.{Rank}
 use Rattle.simulator.specs.declared.simulation.Due.{Due}
 use Rattle.simulator.specs.SimulationState.{IsKeptAt, IsKnown}
 

@@ -16,12 +16,13 @@ use Rattle.simulated_run.specs.Jobs.{last_release}
 use Rattle.simulated_run.specs.SimulatedRun.{World, Moment, seed_of, moment_after, simulated_run, arrive_below}
 use Rattle.simulated_run.proofs.GrowthFacts.{begins_trans, moment_extends, moments_in_turn}
 use Rattle.windows.proofs.TickCounts.{counts_start}
-use Rattle.simulator.specs.declared.simulation.Rank.{Rank}
+use Rattle.urgency.specs.declared.rank.Rank.{Rank}
 use Rattle.simulator.specs.declared.simulation.Due.{Due}
 use Rattle.simulator.specs.declared.refusal.SimRefusal.{SimRefusal}
 use Rattle.simulator.specs.declared.refusal.SimRefusal.TheVariants.{Jobs, Segments, Memory}
 use Rattle.simulator.specs.Simulations.{refused_by, simulation_of, IsSimulation, IsRefusal}
-use Rattle.simulator.specs.Ranks.{rank_cmp, due_cmp}
+use Rattle.urgency.specs.Ranks.{rank_cmp}
+use Rattle.simulator.specs.Dues.{due_cmp}
 use Rattle.simulator.specs.SimulationState.{IsKeptAt, IsKeptBy, IsQueue, HasReleases}
 use Rattle.simulator.proofs.LimitFacts.{none_within, refusal_on}
 use Rattle.simulator.proofs.WindowFacts.{has_no_arrivals}

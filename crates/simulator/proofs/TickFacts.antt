@@ -22,10 +22,11 @@ use Rattle.run_model.proofs.ServiceFacts.{runs_tells}
 use Rattle.schedule_laws.specs.Compliance.{can_cut}
 use Rattle.simulated_run.specs.SimulatedRun.{World, Moment, with_tick, add_tick, choice, chosen, most_urgent, comes_before, may_be_off, is_off, after_off}
 use Rattle.simulator.specs.declared.simulation.Simulation.{Simulation}
-use Rattle.simulator.specs.declared.simulation.Rank.{Rank}
+use Rattle.urgency.specs.declared.rank.Rank.{Rank}
 use Rattle.simulator.specs.declared.simulation.Due.{Due}
-use Rattle.simulator.specs.Ranks.{rank_at, rank_of, rank_cmp}
-use Rattle.simulator.specs.SimulationState.{IsKeptAt, IsKeptBy, IsQueue, IsFirstEntry, MayBe, CanRun, HasReleases, HasCuts, left_at, release_at, run_of}
+use Rattle.urgency.specs.Ranks.{rank_at, rank_of, rank_cmp}
+use Rattle.urgency.specs.Queues.{IsFirstEntry}
+use Rattle.simulator.specs.SimulationState.{IsKeptAt, IsKeptBy, IsQueue, MayBe, CanRun, HasReleases, HasCuts, left_at, release_at, run_of}
 use Rattle.simulator.proofs.WindowFacts.{are_counts_more, has_arrivals_tick}
 use Rattle.simulator.proofs.QueueFacts.{queue_first, queue_none, queue_run, queue_done}
 use Rattle.simulator.proofs.KeepFacts.{kept_tells, kept_inside, kept_run, kept_tick}
@@ -43,7 +44,7 @@ module _ (w : World) (t : ℕ) (run : Run) (left : List ℕ) (queue : BTreeMap R
   pub chosen_first : (k : ℕ) → x ≡ None → IsFirstEntry queue k → choice w run t ≡ Runs k
   chosen_first k e f =
       inside_is None e ∙ ap (chosen None)
-      (queue_first w run left queue coming t kept.waiting (kept_tells w.policy w.cuts w.sheet t run left queue coming x kept) k f.rank f.got f.least)
+      (queue_first w run left queue coming t kept.waiting (kept_tells w.policy w.cuts w.sheet t run left queue coming x kept) k f.rank f.there f.first)
 
   pub chosen_idle : x ≡ None → length queue.entries ≡ 0 → choice w run t ≡ Idle
   chosen_idle e f = inside_is None e ∙ ap (chosen None) (queue_none w run left queue coming t kept.waiting (kept_tells w.policy w.cuts w.sheet t run left queue coming x kept) f)

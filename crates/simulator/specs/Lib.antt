@@ -1,4 +1,4 @@
 pub mod Simulations
 pub mod Loads
-pub mod Ranks
+pub mod Dues
 pub mod SimulationState

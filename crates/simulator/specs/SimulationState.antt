@@ -1,6 +1,6 @@
 -- How the simulation stands to the run so far: the code's own invariants. Nothing here is to be believed.
 use Rattle.std.specs.Prelude.{◌≡◌, ◌≢◌, ℕ, ◌+◌, ◌<◌, ◌≤◌, List, suc, ◌⊎◌, Bool, true, false, length, Option, Some, None, slice_index_or}
-use Rattle.std.specs.BTreeMap.{BTreeMap, get, Updates, IsLowerBound}
+use Rattle.std.specs.BTreeMap.{BTreeMap, get, Updates}
 use Rattle.std.specs.BTreeSet.{BTreeSet, contains, Updates as UpdatesDue}
 use Rattle.std.specs.Global.{Vec}
 use Rattle.lists.specs.Limits.{greatest_number, most_jobs, most_segments}
@@ -26,10 +26,11 @@ use Rattle.simulated_run.specs.SimulatedRun.{World, Moment, world_of, arrive_bel
 use Rattle.windows.specs.Crowds.{AreArrivals}
 use Rattle.windows.specs.Supplied.{AreCounts}
 use Rattle.simulator.specs.declared.simulation.Simulation.{Simulation}
-use Rattle.simulator.specs.declared.simulation.Rank.{Rank}
+use Rattle.urgency.specs.declared.rank.Rank.{Rank}
 use Rattle.simulator.specs.declared.simulation.Due.{Due}
 use Rattle.simulator.specs.Simulations.{refused_by}
-use Rattle.simulator.specs.Ranks.{rank_of, rank_cmp, due_of, due_cmp}
+use Rattle.urgency.specs.Ranks.{rank_of, rank_cmp}
+use Rattle.simulator.specs.Dues.{due_of, due_cmp}
 
 -- the world of a sheet with the supply that it states
 abbrev pub world_by : PolicyMeaning → CutMeaning → SheetParts → Mode → World
@@ -162,12 +163,6 @@ IsReady p m sheet t simulation = IsKeptUpTo p m sheet t (suc t) (suc t) simulati
 abbrev pub CanRun : Option ℕ → ℕ → Type 0
 CanRun None k = Unit {0}
 CanRun (Some j) k = k ≡ j
-
--- the job of the least rank
-pub record IsFirstEntry (queue : BTreeMap Rank ℕ) (k : ℕ) : Type 0 where
-  pub rank : Rank
-  pub got : get rank_cmp queue rank ≡ Some k
-  pub least : IsLowerBound rank_cmp queue rank
 
 -- what may run at t
 pub record IsRunnable (simulation : Simulation) (t k : ℕ) : Type 0 where

@@ -9,7 +9,7 @@ ghost use Rattle.simulator.specs.SimulationState.{IsReady, IsTakenUp, IsNew, wor
 
 use crate::loads::draw_load;
 use crate::refusal::SimRefusal;
-use crate::simulation::{Due, Rank, Simulation, rank_of};
+use crate::simulation::{Due, Simulation};
 use crate::words::{draw_count, draw_release};
 use lists::Items;
 use lists::limits::{MOST_JOBS, MOST_SEGMENTS};
@@ -19,6 +19,7 @@ use simulated_run::Mode;
 use std::alloc::{AllocError, Global};
 use std::collections::{BTreeMap, BTreeSet};
 use task_sheet::{Job, Sheet};
+use urgency::{Rank, rank_of};
 use windows::allowance;
 
 /// Puts a new job into the queue where it is released by `t`, else among those to come.

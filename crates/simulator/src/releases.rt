@@ -3,12 +3,13 @@ ghost use Rattle.std.specs.Prelude.{◌≡◌, ◌≤◌, suc, OnOk, IfSome, IfN
 ghost use Rattle.lists.specs.Limits.{most_ticks};
 ghost use Rattle.simulator.specs.SimulationState.{IsKept, IsReady, NoneIsDue, IsTakenOut, moment_of};
 
-use crate::simulation::{Due, Simulation, rank_of};
+use crate::simulation::{Due, Simulation};
 use policy::Policy;
 use preemption::Preemption;
 use std::alloc::AllocError;
 use std::collections::BTreeSet;
 use task_sheet::Sheet;
+use urgency::rank_of;
 
 /// Takes out the first job to come, if it is released by `t`.
 fn take_due(coming: &mut BTreeSet<Due>, t: u64) -> Option<Due>

@@ -1,24 +1,10 @@
 //! The state of a simulation.
-ghost use Rattle.std.specs.Prelude.{◌≡◌, ◌≤◌, ◌<◌, length};
-ghost use Rattle.lists.specs.Limits.{greatest_number};
-ghost use Rattle.simulator.specs.Ranks.{rank_at};
 
-use policy::Policy;
 use rand_xoshiro::SplitMix64;
 use run_model::Tick;
 use std::collections::{BTreeMap, BTreeSet};
-use task_sheet::{Job, Sheet};
-
-/// Where a job stands among those in the queue: by its key, then by its task, its arrival and
-/// its number.
-#[derive(Clone, Copy, Debug, PartialEq, Eq, PartialOrd, Ord)]
-pub struct Rank {
-    high: i64,
-    low: i64,
-    task: u32,
-    arrival: u64,
-    number: u32,
-}
+use task_sheet::Job;
+use urgency::Rank;
 
 /// When a job that is still to come is released.
 #[derive(Clone, Copy, Debug, PartialEq, Eq, PartialOrd, Ord)]
@@ -49,20 +35,4 @@ pub struct Simulation {
     pub releases: Vec<u64>,
     /// How many ticks before each tick were supplied.
     pub counts: Vec<u64>,
-}
-
-/// The rank of a job with this number.
-pub fn rank_of<P: Policy>(sheet: &Sheet, job: &Job, number: u32) -> Rank
-    requires task { job.now.task < length sheet.now.tasks }
-    requires arrival { job.now.arrival ≤ greatest_number }
-    ensures { result ≡ rank_at P.meaning sheet.now job.now number }
-{
-    let key = P::key(sheet, job);
-    Rank {
-        high: key.high,
-        low: key.low,
-        task: job.task,
-        arrival: job.arrival,
-        number,
-    }
 }

@@ -1,5 +1,5 @@
 //! What the processor does at a tick.
-ghost use Rattle.std.specs.Prelude.{◌≡◌, ◌≤◌, ◌<◌, ℕ, true, None, Some, suc, cond, length, OnOk, MatchOption};
+ghost use Rattle.std.specs.Prelude.{◌≡◌, ◌≤◌, ◌<◌, ℕ, true, None, Some, suc, cond, length, OnOk};
 ghost use Rattle.std.specs.BTreeMap.{Updates};
 ghost use Rattle.lists.specs.Limits.{most_ticks};
 ghost use Rattle.task_sheet.specs.Sheets.{IsTask};
@@ -7,10 +7,10 @@ ghost use Rattle.preemption.specs.CutLaws.{Serves};
 ghost use Rattle.run_model.specs.declared.run.Tick.TheVariants.{Off, Runs as RunsJob};
 ghost use Rattle.run_model.specs.Runs.{is_on as is_on_by};
 ghost use Rattle.simulated_run.specs.SimulatedRun.{World, choice, with_tick, add_tick as add_tick_by};
-ghost use Rattle.simulator.specs.Ranks.{rank_cmp};
-ghost use Rattle.simulator.specs.SimulationState.{IsKept, IsReady, IsKeptAt, IsFirstEntry, IsRunnable, MayBe, FloatsBy, KeepsRest, HasCuts, world_by, run_of, moment_of, moment_with};
+ghost use Rattle.urgency.specs.Ranks.{rank_cmp};
+ghost use Rattle.simulator.specs.SimulationState.{IsKept, IsReady, IsKeptAt, IsRunnable, MayBe, FloatsBy, KeepsRest, HasCuts, world_by, run_of, moment_of, moment_with};
 
-use crate::simulation::{Rank, Simulation, rank_of};
+use crate::simulation::Simulation;
 use crate::words::draw_off;
 use policy::Policy;
 use preemption::Tabled;
@@ -19,20 +19,8 @@ use simulated_run::Mode;
 use std::alloc::AllocError;
 use std::collections::BTreeMap;
 use task_sheet::{Cut, Job, Sheet, Task};
+use urgency::{Rank, first_entry, rank_of};
 use windows::off_allowed;
-
-/// The job of the first entry.
-fn first_entry(queue: &BTreeMap<Rank, u32>) -> Option<u32>
-    ensures { MatchOption result (length queue.now.entries ≡ 0) (IsFirstEntry queue.now) }
-{
-    match queue.first_key_value() {
-        Some((_, k)) => {
-            let number = *k;
-            Some(number)
-        }
-        None => None,
-    }
-}
 
 /// What the processor does where it is supplied.
 fn choose(simulation: &Simulation) -> Tick

@@ -1,14 +1,9 @@
-use Rattle.std.proofs.Common.{sym}
 use Rattle.schedule_laws.specs.Tests.{is_segment_broken}
 use Rattle.audit.specs.declared.verdict.Rule.TheVariants as rule
 use Rattle.audit.specs.Faults.{segment_in}
-use Rattle.audit.proofs.SearchFacts.{tick_none, tick_some}
+use Rattle.audit.proofs.SearchFacts.{placed}
 use Rattle.audit.proofs.ticks.first_segment.Goals as goal
 
-pub returns-in-Some : goal.returns-in-Some
+pub returns : goal.returns
 unfolding segment_in
-returns-in-Some g c = tick_some rule.Segment (is_segment_broken g.M.Preemption.cuts c.args.sheet.now c.args.run.now) c.args.run.now c.in-Some.t c.segment_broken.result c.fault_of.result (rw c.in-Some.is at c.in_ok-t.ensures) c.segment_broken.ensures c.fault_of.ensures
-
-pub returns-in-None : goal.returns-in-None
-unfolding segment_in
-returns-in-None g c = sym (tick_none rule.Segment (is_segment_broken g.M.Preemption.cuts c.args.sheet.now c.args.run.now) c.args.run.now (rw c.in-None.is at c.in_ok-t.ensures))
+returns g c = placed rule.Segment (is_segment_broken g.M.Preemption.cuts c.args.sheet.now c.args.run.now) c.args.run.now _ _ c.in_ok-place.ensures c.fault_of.ensures

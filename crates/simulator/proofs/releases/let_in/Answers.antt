@@ -3,8 +3,8 @@ use Rattle.std.specs.BTreeMap.{Updates}
 use Rattle.std.proofs.lemmas.List.{get_or_read}
 use Rattle.task_sheet.specs.declared.tasks.Job.{Job}
 use Rattle.run_model.specs.Runs.{job_at, no_job}
-use Rattle.simulator.specs.declared.simulation.Rank.{Rank}
-use Rattle.simulator.specs.Ranks.{rank_at, rank_of, rank_cmp}
+use Rattle.urgency.specs.declared.rank.Rank.{Rank}
+use Rattle.urgency.specs.Ranks.{rank_at, rank_of, rank_cmp}
 use Rattle.simulator.specs.SimulationState.{run_of}
 use Rattle.simulator.proofs.KeepFacts.{kept_waiting}
 use Rattle.simulator.proofs.QueueFacts.{queue_begin, queue_let_in}

@@ -1,0 +1,2 @@
+pub mod RankFacts
+pub mod QueueFacts

@@ -1,4 +1,5 @@
 pub mod FieldFacts
+pub mod PointFacts
 pub mod WalkFacts
 pub mod LeftFacts
 pub mod LineFacts

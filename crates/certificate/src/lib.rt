@@ -9,7 +9,7 @@ mod reading;
 mod step;
 mod writing;
 
-pub use cert::{Cert, Entry, Point};
+pub use cert::{Cert, Entry, Point, Terms, Version};
 pub use laws::text_has_one_reading;
 pub use lines::Lines;
 pub use reading::read_cert;

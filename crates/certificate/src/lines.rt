@@ -8,6 +8,7 @@ ghost use Rattle.certificate.specs.Steps.{steps_of};
 ghost use Rattle.certificate.specs.Machine.{StandsFor, after_byte, next_place, is_good_at};
 ghost use Rattle.certificate.specs.declared.cert.Cert.{Cert};
 
+use crate::cert::Version;
 use crate::place::Place;
 use crate::step::LineStep;
 use std::marker::Model;
@@ -89,6 +90,14 @@ impl Lines {
             (IsTrue result ↔ ((c : Cert) × Parses cert_format b c)) }
     {
         self.place.is_over()
+    }
+
+    /// The version of the certificate whose text the bytes so far are.
+    pub fn version(&self) -> Version
+        ensures { (b : List ℕ) (c : Cert) → StandsFor self.now b → Parses cert_format b c →
+            result ≡ c.version }
+    {
+        self.place.version
     }
 
     /// The line that a refusal of the bytes so far names, counted from 1.

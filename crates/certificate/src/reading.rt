@@ -2,38 +2,35 @@
 
 ghost use Rattle.std.specs.Prelude.{◌≡◌, ◌≢◌, OnOk, IfOk, IfErr};
 ghost use Rattle.poet_io.specs.Texts.{Parses, IsReading, AnswersReading};
-ghost use Rattle.certificate.specs.Text.{cert_format};
-ghost use Rattle.certificate.specs.Parsing.{add_point, add_step, cert_of_text};
+ghost use Rattle.certificate.specs.Text.{cert_format, point_line};
+ghost use Rattle.certificate.specs.Parsing.{with_point, add_point, add_step, cert_of_text};
 
-use crate::cert::{Cert, Entry, Point};
+use crate::cert::{Cert, Entry, Point, Terms};
 use crate::lines::Lines;
 use crate::step::LineStep;
 use lists::Items;
 use poet_io::TextRefusal;
 use std::alloc::{AllocError, Global};
 
-/// Appends a point to the last entry. `Items` gives its `Vec` back, so no point is copied.
-fn add_point(entries: &mut Vec<Entry>, point: Point) -> Result<(), AllocError>
-    ensures { OnOk result (entries.new.items ≡ add_point entries.old.items point) }
+/// Appends a point to an entry, with its terms where it has some.
+fn push_point(entry: &mut Entry, point: Point, terms: Option<Terms>) -> Result<(), AllocError>
+    ensures { OnOk result (entry.new ≡ with_point entry.old (point_line point terms)) }
 {
-    let Some(
-        Entry {
-            window,
-            bound,
-            points,
-        },
-    ) = entries.pop()
-    else {
-        return Ok(());
-    };
-    let mut points = points.into_vec();
-    points.push(point)?;
-    entries.push(Entry {
-        window,
-        bound,
-        points: Items::new(points),
-    })?;
+    entry.points.push(point)?;
+    if let Some(terms) = terms {
+        entry.terms.push(terms)?;
+    }
     Ok(())
+}
+
+/// Appends a point to the last entry.
+fn add_point(entries: &mut Vec<Entry>, point: Point, terms: Option<Terms>) -> Result<(), AllocError>
+    ensures { OnOk result (entries.new.items ≡ add_point entries.old.items (point_line point terms)) }
+{
+    match entries.last_mut() {
+        Some(entry) => push_point(entry, point, terms),
+        None => Ok(()),
+    }
 }
 
 /// Takes what a line says.
@@ -46,10 +43,11 @@ fn add_step(alloc: Global, entries: &mut Vec<Entry>, step: LineStep) -> Result<(
                 window,
                 bound,
                 points: Items::new(Vec::new(alloc)),
+                terms: Items::new(Vec::new(alloc)),
             })?;
             Ok(())
         }
-        LineStep::Point { offset, end } => add_point(entries, Point { offset, end }),
+        LineStep::Point { offset, end, terms } => add_point(entries, Point { offset, end }, terms),
         _ => Ok(()),
     }
 }
@@ -72,6 +70,7 @@ pub fn read_cert(alloc: Global, bytes: &[u8]) -> Result<Cert, TextRefusal>
     }
     if lines.is_over() {
         Ok(Cert {
+            version: lines.version(),
             entries: Items::new(entries),
         })
     } else {

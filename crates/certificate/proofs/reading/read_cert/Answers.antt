@@ -23,7 +23,7 @@ returns-then-is_over-clause-found c =
     let bs = c.args.bytes.now in
     let b = take c.loop-byte.byte-index bs in
     let p = (c.is_over.ensures b c.loop-byte.invariant.stands).0 c.if-is_over.true in
-    rw c.new.ensures (found_all c.loop-byte.entries.items b bs p.0 (take_all c.loop-byte.byte-index bs (omega arith)) p.1 c.loop-byte.invariant.so_far)
+    rw c.new.ensures (found_all c.version.result c.loop-byte.entries.items b bs p.0 (take_all c.loop-byte.byte-index bs (omega arith)) p.1 (c.version.ensures b p.0 c.loop-byte.invariant.stands p.1) c.loop-byte.invariant.so_far)
 
 pub returns-then-is_over-clause-gives : goal.returns-then-is_over-clause-gives
 returns-then-is_over-clause-gives c = cert_of_text-reading _ _ (returns-then-is_over-clause-found c)

@@ -12,7 +12,8 @@ use Rattle.certificate.specs.Text.{PointLine, point_of, point_line, lines_of, po
 use Rattle.certificate.specs.declared.cert.Version.{Version}
 use Rattle.certificate.specs.declared.cert.Version.TheVariants.{One, Two}
 use Rattle.certificate.specs.declared.cert.Terms.{Terms}
-use Rattle.certificate.proofs.PointFacts.{IsLineOf, HasTerms, AreLines, are_lines, points_in, terms_in}
+use Rattle.certificate.proofs.PointFacts.{AreLines, are_lines, points_in, terms_in}
+use Rattle.certificate.specs.FirstLines.{IsLineOf}
 use Rattle.poet_io.specs.Texts.{Parses}
 use Rattle.certificate.specs.declared.cert.Entry.{Entry}
 use Rattle.certificate.specs.declared.cert.Point.{Point}

@@ -4,22 +4,11 @@ use Rattle.std.proofs.lemmas.List.{nil_from_length}
 use Rattle.std.proofs.lemmas.List.Elements.{All-nil, All-cons, All-head, All-tail}
 use Rattle.certificate.specs.Text.{PointLine, point_line, lines_of, terms_count, IsPoint, IsTerms}
 use Rattle.certificate.specs.Parsing.{with_terms}
+use Rattle.certificate.specs.FirstLines.{HasTerms, IsLineOf}
 use Rattle.certificate.specs.declared.cert.Version.{Version}
 use Rattle.certificate.specs.declared.cert.Version.TheVariants.{One, Two}
 use Rattle.certificate.specs.declared.cert.Point.{Point}
 use Rattle.certificate.specs.declared.cert.Terms.{Terms}
-
--- a point has terms in the second version alone
-abbrev pub HasTerms : Version → Option Terms → Type 0
-HasTerms One None = Unit {0}
-HasTerms One (Some t) = ⊥
-HasTerms Two None = ⊥
-HasTerms Two (Some t) = IsTerms t
-
--- the line of a point is one of the version
-pub record IsLineOf (version : Version) (l : PointLine) : Type 0 where
-  pub point : IsPoint l.point
-  pub terms : HasTerms version l.terms
 
 pub lines_count : (ps : List Point) (ts : List Terms) → length (lines_of ps ts) ≡ length ps
 lines_count [] ts = refl

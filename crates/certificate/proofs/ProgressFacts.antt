@@ -32,7 +32,7 @@ use Rattle.certificate.proofs.LineFacts.{lines_next}
 pub start_right : IsProgress start 1
 start_right = record { right = record { few = omega arith; points = omega arith; right = (omega arith, tt) }; small = omega arith }
 
-after_bytes-append : (l : Progress) (xs ys : List ℕ) → after_bytes l (xs ++ ys) ≡ after_bytes (after_bytes l xs) ys
+pub after_bytes-append : (l : Progress) (xs ys : List ℕ) → after_bytes l (xs ++ ys) ≡ after_bytes (after_bytes l xs) ys
 after_bytes-append l [] ys = refl
 after_bytes-append l (x ∷ xs) ys = after_bytes-append (after_byte l x) xs ys
 
@@ -40,7 +40,7 @@ pub stands_next : (l : Progress) (b : List ℕ) (x : ℕ) → StandsFor l b → 
 stands_next l b x h = record { is = ap (λ (v : Progress). after_byte v x) h.is ∙ sym (after_bytes-append beginning b (x ∷ [])) }
 
 -- what is said so far does not matter for the place
-place_of : (ss : List LineStep) (l : Progress) (b : List ℕ) → (after_bytes l b).place ≡ (walk ss l.place b).1
+pub place_of : (ss : List LineStep) (l : Progress) (b : List ℕ) → (after_bytes l b).place ≡ (walk ss l.place b).1
 place_of ss l [] = refl
 place_of ss l (x ∷ b) = place_of (cond (x == 10) (ss ++ (next_place l.place x).1 ∷ []) ss) (after_byte l x) b
 
@@ -54,7 +54,7 @@ right_all b = (lines_all beginning b start_right).right
 nothing_next : (v : Version) (e : Expected) (i m k x : ℕ) → e ≡ Nothing → (next_place (at_place v e i m k) x).0.expected ≡ Nothing
 nothing_next v e i m k x h = rw h refl
 
-nothing_stays : (ss : List LineStep) (p : Place) (t : List ℕ) → p.expected ≡ Nothing → (walk ss p t).1.expected ≡ Nothing
+pub nothing_stays : (ss : List LineStep) (p : Place) (t : List ℕ) → p.expected ≡ Nothing → (walk ss p t).1.expected ≡ Nothing
 nothing_stays ss p [] h = h
 nothing_stays ss p (x ∷ t) h = nothing_stays (cond (x == 10) (ss ++ (next_place p x).1 ∷ []) ss) (next_place p x).0 t (nothing_next p.version p.expected p.task p.after p.points x h)
 
@@ -209,7 +209,7 @@ tells_good p s a b = record { to = λ h. absurd (a h); from = λ h. absurd (b h)
 tells_bad : Tells bad
 tells_bad = record { to = λ h. refl; from = λ h. refl }
 
-point_good : (v : Version) (i m k : ℕ) → (after_point v i m k).expected ≡ Nothing → ⊥
+pub point_good : (v : Version) (i m k : ℕ) → (after_point v i m k).expected ≡ Nothing → ⊥
 point_good v i zero zero h = cc
 point_good v i (suc m) zero h = cc
 point_good v i m (suc k) h = cc
@@ -269,7 +269,7 @@ tells_at v (Digits f n) i m k x = elim (cases_Bool (x == ender v f)) [
 tells_at v Over i m k x = tells_bad
 tells_at v Nothing i m k x = tells_bad
 
-nothing_or_good : (e : Expected) → (e ≡ Nothing) ⊎ (e ≡ Nothing → ⊥)
+pub nothing_or_good : (e : Expected) → (e ≡ Nothing) ⊎ (e ≡ Nothing → ⊥)
 nothing_or_good (Rest w at) = inr (λ h. cc)
 nothing_or_good VersionDigit = inr (λ h. cc)
 nothing_or_good (Number f) = inr (λ h. cc)
@@ -290,7 +290,7 @@ bad_is b x =
     )
 
 -- the line
-good_test : (e : Expected) → (e ≡ Nothing → ⊥) → is_good_at e ≡ true
+pub good_test : (e : Expected) → (e ≡ Nothing → ⊥) → is_good_at e ≡ true
 good_test (Rest w at) h = refl
 good_test VersionDigit h = refl
 good_test (Number f) h = refl

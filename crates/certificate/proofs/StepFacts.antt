@@ -19,9 +19,11 @@ use Rattle.certificate.specs.declared.cert.Cert.{Cert}
 use Rattle.certificate.specs.declared.step.LineStep.{LineStep}
 use Rattle.certificate.specs.declared.step.LineStep.TheVariants as says
 use Rattle.certificate.proofs.WalkFacts.{text_walk}
-use Rattle.certificate.proofs.ProgressFacts.{newlines_push, said_count}
+use Rattle.certificate.proofs.ProgressFacts.{said_count}
+use Rattle.certificate.proofs.FeedFacts.{newlines_append}
+use Rattle.certificate.proofs.FieldFacts.{eq_from_test, ne_from_test}
 
--- a fold over the lines said so far, one byte on
+-- a fold over the lines said so far, one line on
 module _ {S : Type 0} (F : S → LineStep → S) (quiet : (s : S) → F s says.More ≡ s) where
   fold_more : (a : S) (ss : List LineStep) (n : ℕ) → fold F a (take (n + 1) ss) ≡ F (fold F a (take n ss)) (get_or ss n says.More)
   fold_more a ss n = elim (cases_lt n (length ss)) [
@@ -29,25 +31,25 @@ module _ {S : Type 0} (F : S → LineStep → S) (quiet : (s : S) → F s says.M
     | inr h ↦ ap (fold F a) (take_all (n + 1) ss (omega arith) ∙ sym (take_all n ss h)) ∙ sym (ap (λ (s : LineStep). F (fold F a (take n ss)) s) (get_or_past ss n says.More h) ∙ quiet (fold F a (take n ss)))
   ]
 
-  pub fold_byte : (a : S) (ss : List LineStep) (b : List ℕ) (x : ℕ) (s : LineStep) → s ≡ cond (x == 10) (slice_index_or ss (newlines b) says.More) says.More
-      → fold F a (take (newlines (b ++ x ∷ [])) ss) ≡ F (fold F a (take (newlines b) ss)) s
-  fold_byte a ss b x s e = elim (cases_Bool (x == 10)) [
-    | inl is_ten ↦
-        let count : newlines (b ++ x ∷ []) ≡ newlines b + 1 = newlines_push b x ∙ ap (λ (w : Bool). newlines b + cond {A = ℕ} w 1 0) is_ten in
-        ap (λ (n : ℕ). fold F a (take n ss)) count ∙ fold_more a ss (newlines b) ∙ ap (F (fold F a (take (newlines b) ss))) (sym (rw is_ten at e))
+  fold_line : (a : S) (ss : List LineStep) (b xs : List ℕ) (s : LineStep) → newlines xs ≤ 1 → s ≡ cond (newlines xs == 1) (slice_index_or ss (newlines b) says.More) says.More
+      → fold F a (take (newlines (b ++ xs)) ss) ≡ F (fold F a (take (newlines b) ss)) s
+  fold_line a ss b xs s few e = elim (cases_Bool (newlines xs == 1)) [
+    | inl is_one ↦
+        let count : newlines (b ++ xs) ≡ newlines b + 1 = newlines_append b xs ∙ ap (λ (n : ℕ). newlines b + n) (eq_from_test (newlines xs) 1 is_one) in
+        ap (λ (n : ℕ). fold F a (take n ss)) count ∙ fold_more a ss (newlines b) ∙ ap (F (fold F a (take (newlines b) ss))) (sym (rw is_one at e))
     | inr not_so ↦
-        let count : newlines (b ++ x ∷ []) ≡ newlines b = newlines_push b x ∙ omega (arith, ap (λ (w : Bool). newlines b + cond {A = ℕ} w 1 0) not_so) in
+        let count : newlines (b ++ xs) ≡ newlines b = newlines_append b xs ∙ omega (arith, few, ne_from_test (newlines xs) 1 not_so) in
         ap (λ (n : ℕ). fold F a (take n ss)) count ∙ sym (ap (F (fold F a (take (newlines b) ss))) (rw not_so at e) ∙ quiet (fold F a (take (newlines b) ss)))
   ]
 
-  -- What is kept is the fold of the lines so far, of each certificate whose text begins so. This takes it one byte on.
-  pub so_far_next : (a old new : S) (s : LineStep) (b next : List ℕ) (x : ℕ) → next ≡ b ++ x ∷ [] → new ≡ F old s
+  -- What is kept is the fold of the lines so far, of each certificate whose text begins so. This takes it one line on.
+  pub so_far_next : (a old new : S) (s : LineStep) (b next xs : List ℕ) → next ≡ b ++ xs → newlines xs ≤ 1 → new ≡ F old s
       → ((more : List ℕ) (c : Cert) → Parses cert_format (b ++ more) c → old ≡ fold F a (take (newlines b) (steps_of c)))
-      → ((more : List ℕ) (c : Cert) → Parses cert_format (b ++ x ∷ more) c → s ≡ (if x == 10 then slice_index_or (steps_of c) (newlines b) says.More else says.More))
+      → ((more : List ℕ) (c : Cert) → Parses cert_format (b ++ (xs ++ more)) c → s ≡ (if newlines xs == 1 then slice_index_or (steps_of c) (newlines b) says.More else says.More))
       → (more : List ℕ) (c : Cert) → Parses cert_format (next ++ more) c → new ≡ fold F a (take (newlines next) (steps_of c))
-  so_far_next a old new s b next x e step before says more c parses =
-      let p : Parses cert_format (b ++ x ∷ more) c = subst (λ (t : List ℕ). Parses cert_format t c) (ap (λ (l : List ℕ). l ++ more) e ∙ append_assoc b (x ∷ []) more) parses in
-      step ∙ ap (λ (o : S). F o s) (before (x ∷ more) c p) ∙ sym (fold_byte a (steps_of c) b x s (says more c p)) ∙ ap (λ (t : List ℕ). fold F a (take (newlines t) (steps_of c))) (sym e)
+  so_far_next a old new s b next xs e few step before says more c parses =
+      let p : Parses cert_format (b ++ (xs ++ more)) c = subst (λ (t : List ℕ). Parses cert_format t c) (ap (λ (l : List ℕ). l ++ more) e ∙ append_assoc b xs more) parses in
+      step ∙ ap (λ (o : S). F o s) (before (xs ++ more) c p) ∙ sym (fold_line a (steps_of c) b xs s few (says more c p)) ∙ ap (λ (t : List ℕ). fold F a (take (newlines t) (steps_of c))) (sym e)
 
 -- at the end of a certificate's text all its lines were said
 pub all_said : (b : List ℕ) (c : Cert) → Parses cert_format b c → length (steps_of c) ≡ newlines b

@@ -13,7 +13,8 @@ use Rattle.certificate.specs.Steps.{point_step, points_steps, entries_steps, ste
 use Rattle.certificate.specs.declared.cert.Version.{Version}
 use Rattle.certificate.specs.declared.cert.Version.TheVariants.{One, Two}
 use Rattle.certificate.specs.declared.cert.Terms.{Terms}
-use Rattle.certificate.proofs.PointFacts.{IsLineOf, HasTerms, lines_count, each_line}
+use Rattle.certificate.proofs.PointFacts.{lines_count, each_line}
+use Rattle.certificate.specs.FirstLines.{HasTerms, IsLineOf}
 use Rattle.certificate.specs.declared.cert.Entry.{Entry}
 use Rattle.certificate.specs.declared.cert.Point.{Point}
 use Rattle.certificate.specs.declared.cert.Cert.{Cert}

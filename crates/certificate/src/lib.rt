@@ -6,6 +6,7 @@ mod laws;
 mod lines;
 mod place;
 mod reading;
+mod scanning;
 mod step;
 mod writing;
 

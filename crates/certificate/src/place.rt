@@ -3,9 +3,10 @@
 //! A text is words, which are fixed, and numbers. What comes next is always one of the two, so a
 //! place needs no memory, and one byte leads from place to place.
 
-ghost use Rattle.std.specs.Prelude.{◌≡◌, ◌<◌, ◌≤◌, ◌+◌, ◌-◌, ℕ, Some, length, slice_index};
+ghost use Rattle.std.specs.Prelude.{IsTrue, ◌≡◌, ◌<◌, ◌≤◌, ◌+◌, ◌-◌, ℕ, Some, length, slice_index};
 ghost use Rattle.lists.specs.Limits.{most_tasks};
 ghost use Rattle.certificate.specs.Machine.{word_text, after_word, word_step, least, greatest, end_ender, ender, at_place, bad, after_point, after_end, after_number, in_word, version_digit, first_digit, more_digits, next_place, start, is_good_at, is_over_at, IsRightField, IsPlace};
+ghost use Rattle.certificate.specs.FirstLines.{said_at};
 ghost use Rattle.certificate.specs.declared.step.LineStep.TheVariants.{More};
 
 use crate::cert::{Point, Terms, Version};
@@ -139,7 +140,7 @@ impl Word {
 
 impl Version {
     /// The byte behind a point's end.
-    fn end_ender(self) -> u8
+    pub(crate) fn end_ender(self) -> u8
         ensures { result ≡ end_ender self }
     {
         match self {
@@ -416,6 +417,23 @@ impl Place {
         ensures { result ≡ is_good_at self.expected }
     {
         !matches!(&self.expected, Expected::Nothing)
+    }
+
+    /// What is said here where no byte comes.
+    pub fn said(self) -> LineStep
+        ensures { result ≡ said_at self.expected }
+    {
+        match self.expected {
+            Expected::Nothing => LineStep::Bad,
+            _ => LineStep::More,
+        }
+    }
+
+    /// Whether the line of a point must come.
+    pub fn is_at_point(self) -> bool
+        ensures { IsTrue result → self.expected ≡ Expected.Rest Word.Point 0 }
+    {
+        matches!(&self.expected, Expected::Rest(Word::Point, 0))
     }
 
     /// Whether what led here is a certificate.

@@ -64,9 +64,11 @@ pub fn read_cert(alloc: Global, bytes: &[u8]) -> Result<Cert, TextRefusal>
 {
     let mut lines = Lines::new();
     let mut entries = Vec::new(alloc);
-    for byte in bytes {
-        let step = lines.feed(*byte);
+    let mut at = 0;
+    while at < bytes.len() {
+        let (len, step) = lines.feed_line(&bytes[at..]);
         add_step(alloc, &mut entries, step)?;
+        at += len;
     }
     if lines.is_over() {
         Ok(Cert {

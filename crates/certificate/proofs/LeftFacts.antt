@@ -439,7 +439,7 @@ entries_left v i (suc m) t h =
     let are = are_lines v points.lines points.each in
     let others = entries_left v (suc i) m points.rest points.after in
     let e : Entry = record { window = w.n; bound = r.n; points = points_in points.lines; terms = terms_in points.lines } in
-    let count : length e.points ≡ k.n = length-map (λ (l : PointLine). l.point) points.lines ∙ points.count in
+    let count : length e.points ≡ k.n = length-map points.lines (λ (l : PointLine). l.point) ∙ points.count in
     record {
       entries = e ∷ others.entries;
       count = ap suc others.count;

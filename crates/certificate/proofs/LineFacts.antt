@@ -42,7 +42,7 @@ most_top (Number (field.Finish a)) i k h r = omega arith
 most_top (Number (field.Blocking p)) i k h r = omega arith
 most_top (Number (field.Own p b)) i k h r = omega arith
 most_top (Number (field.Others p b o)) i k h r = omega arith
-most_top (Number (field.Need p b o h)) i k h r = omega arith
+most_top (Number (field.Need p b o t)) i k h r = omega arith
 most_top (Digits field.Tasks v) i k h r = omega arith
 most_top (Digits field.Window v) i k h r = omega arith
 most_top (Digits (field.Bound w) v) i k h r = omega arith
@@ -52,7 +52,7 @@ most_top (Digits (field.Finish a) v) i k h r = omega arith
 most_top (Digits (field.Blocking p) v) i k h r = omega arith
 most_top (Digits (field.Own p b) v) i k h r = omega arith
 most_top (Digits (field.Others p b o) v) i k h r = omega arith
-most_top (Digits (field.Need p b o h) v) i k h r = omega arith
+most_top (Digits (field.Need p b o t) v) i k h r = omega arith
 most_top Over i k h r = omega arith
 most_top Nothing i k h r = omega arith
 

@@ -1,11 +1,11 @@
 -- What is made of the lines said so far.
-use Rattle.std.proofs.Common.{◌≡◌, ℕ, suc, ◌+◌, ◌<◌, ◌==◌, Bool, cond, List, [], ◌∷◌, ◌++◌, length, get_or, take, drop, drop-cons, add-one, map, Option, Some, None, All, fold, slice_index_or, if◌then◌else◌, refl, sym, ap, subst, ◌∙◌, inl, inr, arith, append_assoc}
+use Rattle.std.proofs.Common.{◌≡◌, ℕ, suc, ◌+◌, ◌<◌, ◌≤◌, ◌==◌, Bool, cond, List, [], ◌∷◌, ◌++◌, length, get_or, take, map, Option, Some, None, All, fold, slice_index_or, if◌then◌else◌, refl, sym, ap, subst, ◌∙◌, inl, inr, arith, append_assoc}
 use Rattle.std.proofs.lemmas.List.{append-nil, take_more, take_all, get_or_past}
 use Rattle.std.proofs.lemmas.List.Sums.{fold_push, fold-append}
 use Rattle.std.proofs.lemmas.Bool.{cases_Bool, cases_lt}
 use Rattle.std.proofs.lemmas.List.Elements.{All-head, All-tail}
 use Rattle.poet_io.specs.Texts.{Parses, newlines}
-use Rattle.certificate.specs.Text.{PointLine, lines_of, cert_format, entries_text, entry_line, points_text, HasTermsOf, IsWithinGrammar}
+use Rattle.certificate.specs.Text.{PointLine, lines_of, cert_format, HasTermsOf, IsWithinGrammar}
 use Rattle.certificate.specs.Steps.{steps_of, entries_steps, point_step}
 use Rattle.certificate.specs.Parsing.{with_terms, with_point, add_point, add_step, entries_of}
 use Rattle.certificate.specs.declared.cert.Version.{Version}
@@ -112,15 +112,6 @@ found_all version entries b bytes c e h same_version so_far =
     let same : entries ≡ c.entries = so_far [] c (subst (λ (t : List ℕ). Parses cert_format t c) (sym (append-nil b)) h) ∙ ap entries_of (take_all (newlines b) (steps_of c) (omega (arith, all_said b c h))) ∙ entries_of-steps c h.within in
     let is : c ≡ record { version = version; entries = entries } = ap (λ (es : List Entry). record { version = c.version; entries = es }) (sym same) ∙ ap (λ (v : Version). record { version = v; entries = entries }) (sym same_version) in
     subst (λ (t : List ℕ). Parses cert_format t (record { version = version; entries = entries })) e (subst (Parses cert_format b) is h)
-
--- Writing: one entry more.
-pub entries_text-push : (es : List Entry) (i : ℕ) (e : Entry) (out more whole : List ℕ) → i < length es → e ≡ get_or es i e → more ≡ out ++ (entry_line i e ++ points_text e)
-    → out ++ entries_text i (drop i es) ≡ whole → more ++ entries_text (i + 1) (drop (i + 1) es) ≡ whole
-entries_text-push es i e out more whole h is new so_far =
-    let step : entries_text i (drop i es) ≡ entry_line i e ++ (points_text e ++ entries_text (i + 1) (drop (i + 1) es)) =
-    rw add-one (ap (entries_text i) (drop-cons es i e h ∙ ap (λ (f : Entry). f ∷ drop (suc i) es) (sym is))) in
-    ap (λ (l : List ℕ). l ++ entries_text (i + 1) (drop (i + 1) es)) new ∙ append_assoc out (entry_line i e ++ points_text e) (entries_text (i + 1) (drop (i + 1) es))
-    ∙ ap (λ (l : List ℕ). out ++ l) (append_assoc (entry_line i e) (points_text e) (entries_text (i + 1) (drop (i + 1) es)) ∙ sym step) ∙ so_far
 
 pub add_step-quiet : (es : List Entry) → add_step es says.More ≡ es
 add_step-quiet es = refl

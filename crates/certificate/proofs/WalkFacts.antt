@@ -1,5 +1,5 @@
 -- Reading the text of a certificate leads over it, and says its lines.
-use Rattle.std.proofs.Common.{◌≡◌, ℕ, suc, zero, ◌+◌, ◌-◌, ◌*◌, ◌/◌, ◌%◌, ◌^◌, ◌<◌, ◌≤◌, ◌==◌, true, false, cond, nat_le, List, [], ◌∷◌, ◌++◌, length, get_or, drop, map, slice_index, codes, refl, sym, ap, ◌∙◌, arith, append_assoc, decimal, All, add-zero, length-drop, get_or-drop}
+use Rattle.std.proofs.Common.{◌≡◌, ℕ, suc, zero, ◌+◌, ◌-◌, ◌*◌, ◌/◌, ◌%◌, ◌^◌, ◌<◌, ◌≤◌, ◌==◌, true, false, cond, nat_le, Option, Some, None, List, [], ◌∷◌, ◌++◌, length, get_or, drop, map, slice_index, codes, refl, sym, ap, ◌∙◌, arith, append_assoc, decimal, All, add-zero, length-drop, get_or-drop}
 use Rattle.std.specs.List.{flat_map}
 use Rattle.std.proofs.lemmas.List.{append-nil, drop-drop}
 use Rattle.std.proofs.lemmas.List.Elements.{All-head, All-tail}

@@ -1,8 +1,8 @@
 -- A line read at once does what its bytes do one by one.
-use Rattle.std.proofs.Common.{◌≡◌, ℕ, suc, zero, ◌+◌, ◌-◌, ◌<◌, ◌≤◌, ◌==◌, Bool, true, false, ◌&&◌, cond, List, [], ◌∷◌, ◌++◌, length, get_or, take, refl, sym, ap, subst, ◌∙◌, ◌⊎◌, inl, inr, ◌↔◌, slice_index_or, if◌then◌else◌, arith, append_assoc}
-use Rattle.std.proofs.lemmas.List.{append-nil, take_more, take_all}
+use Rattle.std.proofs.Common.{◌≢◌, ◌≡◌, ℕ, suc, zero, ◌+◌, ◌-◌, ◌<◌, ◌≤◌, ◌==◌, Bool, true, false, ◌&&◌, cond, List, [], ◌∷◌, ◌++◌, length, get_or, take, drop, refl, sym, ap, subst, ◌∙◌, ◌⊎◌, inl, inr, ◌↔◌, slice_index_or, if◌then◌else◌, arith, append_assoc}
+use Rattle.std.proofs.lemmas.List.{append-nil, take_more, take_all, take-append-drop, take-take, drop-take}
 use Rattle.std.proofs.lemmas.List.Sums.{sum_by-cons, sum_by-append, sum_by-take-le}
-use Rattle.std.proofs.lemmas.Bool.{cases_Bool}
+use Rattle.std.proofs.lemmas.Bool.{cases_Bool, eq-eqb, ne_eqb}
 use Rattle.std.proofs.lemmas.Bool.Decides.{nat_tests}
 use Rattle.poet_io.specs.Texts.{Parses, BeginsText, newlines}
 use Rattle.certificate.specs.Text.{cert_format}
@@ -64,18 +64,26 @@ line_few bytes n h = elim (line_parts bytes n h) [
   | inr p ↦ omega (arith, last_count (take n bytes) p, bit_few (p.last == 10))
 ]
 
--- a step more, where no byte before was a newline
-pub none_more : (bytes : List ℕ) (i : ℕ) → i < length bytes → newlines (take i bytes) ≡ 0 → (get_or bytes i 0 == 10) ≡ false → newlines (take (i + 1) bytes) ≡ 0
-none_more bytes i h none not_so =
-    ap newlines (take_more bytes i 0 h) ∙ newlines_push (take i bytes) (get_or bytes i 0) ∙ omega (arith, none, ap (λ (w : Bool). cond {A = ℕ} w 1 0) not_so)
+-- one byte more of a line
+pub byte_fed : (l now new : Progress) (bytes : List ℕ) (i : ℕ) → i < length bytes → now ≡ after_bytes l (take i bytes) → new ≡ after_byte now (get_or bytes i 0) → new ≡ after_bytes l (take (i + 1) bytes)
+byte_fed l now new bytes i h before step =
+    step ∙ ap (λ (v : Progress). after_byte v (get_or bytes i 0)) before ∙ sym (after_push l (take i bytes) (get_or bytes i 0)) ∙ ap (after_bytes l) (sym (take_more bytes i 0 h))
 
-pub line_here : (bytes : List ℕ) (i : ℕ) → i < length bytes → newlines (take i bytes) ≡ 0 → (get_or bytes i 0 == 10) ≡ true → IsFirstLine bytes (i + 1)
-line_here bytes i h none is_ten =
+pub byte_said : (l now : Progress) (s said : LineStep) (bytes : List ℕ) (i : ℕ) → i < length bytes → now ≡ after_bytes l (take i bytes) → said ≡ (next_place now.place (get_or bytes i 0)).1 → said ≡ said_after s l (take (i + 1) bytes)
+byte_said l now s said bytes i h before step =
+    step ∙ ap (λ (v : Progress). (next_place v.place (get_or bytes i 0)).1) before ∙ sym (said_push s l (take i bytes) (get_or bytes i 0)) ∙ ap (said_after s l) (sym (take_more bytes i 0 h))
+
+pub none_more : (bytes : List ℕ) (i : ℕ) → i < length bytes → newlines (take i bytes) ≡ 0 → get_or bytes i 0 ≢ 10 → newlines (take (i + 1) bytes) ≡ 0
+none_more bytes i h none other =
+    ap newlines (take_more bytes i 0 h) ∙ newlines_push (take i bytes) (get_or bytes i 0) ∙ omega (arith, none, ap (λ (w : Bool). cond {A = ℕ} w 1 0) (ne_eqb (get_or bytes i 0) 10 other))
+
+pub line_here : (bytes : List ℕ) (i : ℕ) → i < length bytes → newlines (take i bytes) ≡ 0 → get_or bytes i 0 ≡ 10 → IsFirstLine bytes (i + 1)
+line_here bytes i h none newline =
     let less : i + 1 - 1 ≡ i = omega arith in
     record {
       within = omega arith;
       inside = subst (λ (m : ℕ). newlines (take m bytes) ≡ 0) (sym less) none;
-      whole = λ _. ap newlines (take_more bytes i 0 h) ∙ newlines_push (take i bytes) (get_or bytes i 0) ∙ omega (arith, none, ap (λ (w : Bool). cond {A = ℕ} w 1 0) is_ten);
+      whole = λ _. ap newlines (take_more bytes i 0 h) ∙ newlines_push (take i bytes) (get_or bytes i 0) ∙ omega (arith, none, ap (λ (w : Bool). cond {A = ℕ} w 1 0) (eq-eqb (get_or bytes i 0) 10 newline));
     }
 
 newlines_front : (bytes : List ℕ) (n : ℕ) → newlines (take n bytes) ≤ newlines bytes
@@ -83,6 +91,9 @@ newlines_front bytes n = sum_by-take-le (λ (y : ℕ). cond (y == 10) 1 0) bytes
 
 front_none : (bytes : List ℕ) (n : ℕ) → n ≤ length bytes → newlines bytes ≡ 0 → newlines (take n bytes) ≡ 0
 front_none bytes n h none = omega (arith, none, newlines_front bytes n)
+
+pub to_end : (bytes : List ℕ) (i : ℕ) → length bytes ≤ i → take i bytes ≡ take (length bytes) bytes
+to_end bytes i h = take_all i bytes h ∙ sym (take_all (length bytes) bytes (omega arith))
 
 pub line_to_end : (bytes : List ℕ) (i : ℕ) → length bytes ≤ i → newlines (take i bytes) ≡ 0 → IsFirstLine bytes (length bytes)
 line_to_end bytes i h none =
@@ -188,3 +199,21 @@ line_some bytes zero h some =
     let one : newlines (take 0 bytes) ≡ 1 = h.whole some in
     absurd (omega (arith, one))
 line_some bytes (suc n) h some = omega arith
+
+-- a line that was fed
+pub stands_fed : (l new : Progress) (b bytes : List ℕ) (n : ℕ) → new ≡ after_bytes l (take n bytes) → StandsFor l b → StandsFor new (b ++ take n bytes)
+stands_fed l new b bytes n e h = subst (λ (v : Progress). StandsFor v (b ++ take n bytes)) (sym e) (stands_all l b (take n bytes) h)
+
+pub bad_fed : (l : Progress) (b bytes : List ℕ) (n : ℕ) (s : LineStep) → IsFirstLine bytes n → s ≡ said_after (said_at l.place.expected) l (take n bytes) → StandsFor l b
+    → (s ≡ says.Bad) ↔ (BeginsText cert_format (b ++ take n bytes) → ⊥)
+bad_fed l b bytes n s first e h = subst (λ (y : LineStep). BadIs y (b ++ take n bytes)) (sym e) (bad_line l b bytes n first h)
+
+pub says_fed : (l : Progress) (b more bytes : List ℕ) (n : ℕ) (c : Cert) (s : LineStep) → IsFirstLine bytes n → s ≡ said_after (said_at l.place.expected) l (take n bytes) → StandsFor l b
+    → Parses cert_format (b ++ (take n bytes ++ more)) c → s ≡ (if newlines (take n bytes) == 1 then slice_index_or (steps_of c) (newlines b) says.More else says.More)
+says_fed l b more bytes n c s first e h parses = e ∙ says_line l b more bytes n c first h parses
+
+-- the bytes up to a place, and a line behind it
+pub line_on : (bytes : List ℕ) (at n : ℕ) → take (at + n) bytes ≡ take at bytes ++ take n (drop at bytes)
+line_on bytes at n =
+    sym (take-append-drop at (take (at + n) bytes)) ∙ ap (λ (t : List ℕ). t ++ drop at (take (at + n) bytes)) (take-take at (at + n) bytes (omega arith))
+    ∙ ap (λ (t : List ℕ). take at bytes ++ t) (drop-take at n bytes)

@@ -44,7 +44,7 @@ pub place_of : (ss : List LineStep) (l : Progress) (b : List ℕ) → (after_byt
 place_of ss l [] = refl
 place_of ss l (x ∷ b) = place_of (cond (x == 10) (ss ++ (next_place l.place x).1 ∷ []) ss) (after_byte l x) b
 
-lines_all : (l : Progress) (b : List ℕ) → IsProgress l.place l.line → IsProgress (after_bytes l b).place (after_bytes l b).line
+pub lines_all : (l : Progress) (b : List ℕ) → IsProgress l.place l.line → IsProgress (after_bytes l b).place (after_bytes l b).line
 lines_all l [] h = h
 lines_all l (x ∷ b) h = lines_all (after_byte l x) b (lines_next l.place x l.line h)
 

@@ -1,6 +1,6 @@
 -- A point's line in front of the bytes, read at once.
 use Rattle.std.proofs.Common.{◌≡◌, ℕ, suc, zero, ◌+◌, ◌-◌, ◌/◌, ◌%◌, ◌^◌, ◌<◌, ◌≤◌, ◌==◌, Bool, false, cond, List, [], ◌∷◌, ◌++◌, Option, Some, None, length, get_or, take, drop, codes, decimal, refl, sym, ap, subst, ◌∙◌, arith, append_assoc, length-append}
-use Rattle.std.proofs.lemmas.List.{append-nil, take_at, nil_from_length, take-append-drop, drop_more}
+use Rattle.std.proofs.lemmas.List.{append-nil, length-take-le, get_or-take, take_at, nil_from_length, take-append-drop, drop_more}
 use Rattle.std.proofs.lemmas.List.Sums.{sum_by-cons}
 use Rattle.std.proofs.lemmas.Fmt.{decimal_by_steps_wide}
 use Rattle.std.specs.Str.Parse.{AllDigits, digits_value}
@@ -10,17 +10,19 @@ use Rattle.certificate.specs.Text.{PointLine, point_line, terms_text, point_text
 use Rattle.certificate.specs.Steps.{point_step}
 use Rattle.certificate.specs.Progress.{Progress}
 use Rattle.certificate.specs.FirstLines.{IsFirstLine, IsLineOf, HasTerms, said_after}
-use Rattle.certificate.specs.Machine.{at_place, after_point, after_bytes, next_place, walk}
+use Rattle.certificate.specs.Machine.{at_place, after_point, after_bytes, next_place, walk, IsRight, IsProgress}
 use Rattle.certificate.specs.declared.cert.Version.{Version}
 use Rattle.certificate.specs.declared.cert.Version.TheVariants.{One, Two}
 use Rattle.certificate.specs.declared.cert.Point.{Point}
 use Rattle.certificate.specs.declared.cert.Terms.{Terms}
 use Rattle.certificate.specs.declared.place.Word.TheVariants as word
+use Rattle.certificate.specs.declared.place.Expected.{Expected}
 use Rattle.certificate.specs.declared.place.Expected.TheVariants.{Rest, Nothing}
 use Rattle.certificate.specs.declared.place.Place.{Place}
 use Rattle.certificate.specs.declared.step.LineStep.{LineStep}
+use Rattle.certificate.specs.declared.step.LineStep.TheVariants as says
 use Rattle.certificate.proofs.WalkFacts.{one_point, walk-append}
-use Rattle.certificate.proofs.ProgressFacts.{place_of, said_count, newlines_push, point_good}
+use Rattle.certificate.proofs.ProgressFacts.{lines_all, place_of, said_count, newlines_push, point_good}
 use Rattle.certificate.proofs.FeedFacts.{said_push, line_count}
 
 decimal_wide_line : (n : ℕ) → n < 10 ^ 64 → IsOneLine (decimal n)
@@ -117,6 +119,19 @@ pub reads_point : (p : Place) (l : PointLine) (line : ℕ) (s : LineStep) (bytes
 reads_point p l line s bytes rest e some h is =
     subst (ReadsPoint p line l s) (sym (front_taken bytes (point_text l) rest is))
     (subst (λ (x : _). ReadsPoint (at_place p.version x p.task p.after p.points) line l s (point_text l)) (sym e) (reads_at p.version l p.task p.after p.points line s some h))
+
+-- where a point's word must come, a point is still to come
+pub point_some : (p : Place) (line : ℕ) → p.expected ≡ Rest word.Point 0 → IsProgress p line → 1 ≤ p.points
+point_some p line e h =
+    let right : IsRight (Rest word.Point 0) p.task p.points = subst (λ (x : Expected). IsRight x p.task p.points) e h.right.right in
+    right.1
+
+-- bytes lead to the place behind a point
+pub point_right : (p : Place) (l : PointLine) (line : ℕ) (bytes rest : List ℕ) → p.expected ≡ Rest word.Point 0 → IsProgress p line → IsLineOf p.version l → bytes ≡ point_text l ++ rest
+    → IsProgress (after_point p.version p.task p.after (p.points - 1)) (line + 1)
+point_right p l line bytes rest e right h is =
+    let r = reads_point p l line says.More bytes rest e (point_some p line e right) h is in
+    subst (λ (x : Progress). IsProgress x.place x.line) r.progress (lines_all (record { place = p; line = line }) (take (length bytes - length rest) bytes) right)
 
 -- a number in front of the bytes
 pub number_in_front : (bytes : List ℕ) (n v ender : ℕ) → n < length bytes → 0 < n → AllDigits 10 (take n bytes) → v ≡ digits_value 10 (take n bytes) → v < 10 ^ 18

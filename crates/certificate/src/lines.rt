@@ -87,6 +87,7 @@ impl Lines {
     }
 
     /// Takes the bytes up to and with the first newline, one by one.
+    #[tactic(auto, using(crate::proofs::FeedFacts::byte_fed, crate::proofs::FeedFacts::byte_said, crate::proofs::FeedFacts::none_more, crate::proofs::FeedFacts::line_here, crate::proofs::FeedFacts::line_to_end, crate::proofs::FeedFacts::to_end))]
     fn advance_line(&mut self, bytes: &[u8]) -> (usize, LineStep)
         ensures first { IsFirstLine bytes.now result.0 }
         ensures progress { self.new ≡ after_bytes self.old (take result.0 bytes.now) }
@@ -104,6 +105,7 @@ impl Lines {
     }
 
     /// Takes the line of a point at once, where it is whole in front of the bytes and must come.
+    #[tactic(auto, using(crate::proofs::ScanFacts::point_some, crate::proofs::ScanFacts::point_first, crate::proofs::ScanFacts::point_right, crate::proofs::ScanFacts::reads_point))]
     fn advance_point(&mut self, bytes: &[u8]) -> Option<(usize, LineStep)>
         ensures first { IfSome result (λ r. IsFirstLine bytes.now r.0) }
         ensures progress { IfSome result (λ r. self.new ≡
@@ -132,6 +134,7 @@ impl Lines {
     /// many these are, and what the line says that ends with them.
     ///
     /// It does what `feed` does for each of these bytes; the line of a point is read at once.
+    #[tactic(auto, using(crate::proofs::FeedFacts::stands_fed, crate::proofs::FeedFacts::bad_fed, crate::proofs::FeedFacts::says_fed))]
     pub fn feed_line(&mut self, bytes: &[u8]) -> (usize, LineStep)
         ensures first { IsFirstLine bytes.now result.0 }
         ensures stands { (b : List ℕ) → StandsFor self.old b →

@@ -38,6 +38,7 @@ fn point_len(point: Point, terms: &[Terms], at: usize) -> u64
     }
 }
 
+#[tactic(auto, using(crate::proofs::WritingFacts::points_length, crate::proofs::WritingFacts::all_lines))]
 fn points_len(entry: &Entry) -> u64
     requires { IsEntry entry.now }
     ensures exact { result ≡ length (points_text entry.now) }
@@ -61,6 +62,7 @@ fn entry_line_len(task: usize, entry: &Entry) -> u64
 }
 
 /// How many bytes the text of a certificate has, with the conditions of `write_cert`.
+#[tactic(auto, using(crate::proofs::WritingFacts::entries_length, crate::proofs::WritingFacts::text_length))]
 pub fn text_len(cert: &Cert) -> u64
     requires { IsWithinGrammar cert.now }
     ensures { result ≡ length (text_of cert.now) }

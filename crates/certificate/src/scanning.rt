@@ -13,6 +13,7 @@ use lists::limits::GREATEST_NUMBER;
 const MANY: u64 = 100_000_000_000_000_000;
 
 /// The number that the digits in front of the bytes write, and how many they are: up to 18.
+#[tactic(auto, using(poet_io::proofs::DecimalFacts::digits_next, poet_io::proofs::DecimalFacts::digit_from_test))]
 fn front_digits(bytes: &[u8]) -> (u64, usize)
     ensures within { result.1 ≤ length bytes.now }
     ensures digits { AllDigits 10 (take result.1 bytes.now) }
@@ -36,6 +37,7 @@ fn front_digits(bytes: &[u8]) -> (u64, usize)
 ///
 /// There is none where this byte is not behind a canonical decimal, and for some numbers of 18
 /// digits and more.
+#[tactic(auto, using(crate::proofs::ScanFacts::number_in_front))]
 fn take_number(bytes: &[u8], ender: u8) -> Option<(u64, &[u8])>
     ensures text { IfSome result (λ r. bytes.now ≡ decimal r.0 ++ (ender ∷ r.1.now)) }
     ensures small { IfSome result (λ r. r.0 < 10 ^ 18) }

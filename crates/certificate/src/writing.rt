@@ -42,6 +42,7 @@ fn push_point(out: &mut Vec<u8>, point: Point, terms: &[Terms], at: usize) -> Re
     Ok(())
 }
 
+#[tactic(auto, using(crate::proofs::WritingFacts::points_pushed, crate::proofs::WritingFacts::all_lines))]
 fn push_points(out: &mut Vec<u8>, points: &[Point], terms: &[Terms]) -> Result<(), AllocError>
     ensures { OnOk result (out.new.items ≡ out.old.items ++
         flat_map point_text (lines_of points.now terms.now)) }

@@ -1,6 +1,6 @@
 -- A point's line in front of the bytes, read at once.
-use Rattle.std.proofs.Common.{◌≡◌, ℕ, suc, zero, ◌+◌, ◌-◌, ◌/◌, ◌%◌, ◌^◌, ◌<◌, ◌≤◌, ◌==◌, Bool, false, cond, List, [], ◌∷◌, ◌++◌, Option, Some, None, length, get_or, take, drop, codes, decimal, refl, sym, ap, subst, ◌∙◌, arith, append_assoc, length-append}
-use Rattle.std.proofs.lemmas.List.{append-nil, length-take-le, get_or-take, take_at, nil_from_length, take-append-drop, drop_more}
+use Rattle.std.proofs.Common.{◌≢◌, ◌≡◌, ℕ, suc, zero, ◌+◌, ◌-◌, ◌/◌, ◌%◌, ◌^◌, ◌<◌, ◌≤◌, ◌==◌, Bool, false, cond, List, [], ◌∷◌, ◌++◌, Option, Some, None, length, get_or, take, drop, codes, decimal, refl, sym, ap, subst, ◌∙◌, arith, append_assoc, length-append}
+use Rattle.std.proofs.lemmas.List.{append-nil, length-take-le, get_or-take, take_at, nil_from_length, take-append-drop, take_rest, drop_more}
 use Rattle.std.proofs.lemmas.List.Sums.{sum_by-cons}
 use Rattle.std.proofs.lemmas.Fmt.{decimal_by_steps_wide}
 use Rattle.std.specs.Str.Parse.{AllDigits, digits_value}
@@ -141,3 +141,26 @@ number_in_front bytes n v ender inside some all value small next lead =
     let first : get_or (take n bytes) 0 0 ≡ get_or bytes 0 0 = get_or-take n bytes 0 0 some in
     let is : take n bytes ≡ decimal v = canonical (take n bytes) v (omega arith) all value (omega arith) (λ e. long ∙ lead (sym first ∙ e)) in
     sym (take-append-drop n bytes) ∙ ap (λ (t : List ℕ). t ++ drop n bytes) is ∙ ap (λ (t : List ℕ). decimal v ++ t) (drop_more bytes n 0 inside ∙ ap (λ (x : ℕ). x ∷ drop (n + 1) bytes) next)
+
+-- the same, with what follows as a slice gives it
+pub number_taken : (bytes : List ℕ) (n v ender : ℕ) → n < length bytes → n ≢ 0 → AllDigits 10 (take n bytes) → v ≡ digits_value 10 (take n bytes) → v < 10 ^ 18
+    → get_or bytes n 0 ≡ ender → (get_or bytes 0 0 ≡ 48 → n ≤ 1) → bytes ≡ decimal v ++ (ender ∷ take (length bytes - (n + 1)) (drop (n + 1) bytes))
+number_taken bytes n v ender inside some all value small next lead =
+    number_in_front bytes n v ender inside (omega arith) all value small next (λ e. omega (arith, lead e))
+    ∙ ap (λ (t : List ℕ). decimal v ++ (ender ∷ t)) (sym (take_rest bytes (n + 1)))
+
+-- a point's word in front of the bytes
+pub word_in_front : (bytes text : List ℕ) → 2 ≤ length bytes → get_or bytes 0 0 ≡ 112 → get_or bytes 1 0 ≡ 32 → drop 2 bytes ≡ text → bytes ≡ 112 ∷ (32 ∷ text)
+word_in_front [] text h e f g = absurd (omega arith)
+word_in_front (x ∷ []) text h e f g = absurd (omega arith)
+word_in_front (x ∷ (y ∷ bytes)) text h e f g =
+    ap (λ (a : ℕ). a ∷ (y ∷ bytes)) e ∙ ap (λ (a : ℕ). 112 ∷ (a ∷ bytes)) f ∙ ap (λ (t : List ℕ). 112 ∷ (32 ∷ t)) g
+
+-- a whole line in front of the bytes
+pub plain_in_front : (bytes rest : List ℕ) (p : Point) → bytes ≡ 112 ∷ (32 ∷ (decimal p.offset ++ (32 ∷ (decimal p.end ++ (10 ∷ rest))))) → bytes ≡ point_text (point_line p None) ++ rest
+plain_in_front bytes rest p e = e ∙ simp append_assoc
+
+pub terms_in_front : (bytes more rest : List ℕ) (p : Point) (t : Terms) → bytes ≡ 112 ∷ (32 ∷ (decimal p.offset ++ (32 ∷ (decimal p.end ++ (32 ∷ more)))))
+    → more ≡ decimal t.blocking ++ (32 ∷ (decimal t.own ++ (32 ∷ (decimal t.others ++ (32 ∷ (decimal t.need ++ (10 ∷ rest)))))))
+    → bytes ≡ point_text (point_line p (Some t)) ++ rest
+terms_in_front bytes more rest p t e f = e ∙ ap (λ (l : List ℕ). 112 ∷ (32 ∷ (decimal p.offset ++ (32 ∷ (decimal p.end ++ (32 ∷ l)))))) f ∙ simp append_assoc

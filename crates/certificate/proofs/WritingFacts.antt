@@ -1,8 +1,9 @@
 -- Writing: one more point, and one more entry; and how long the text is.
 use Rattle.std.proofs.Common.{◌≡◌, ℕ, suc, zero, ◌+◌, ◌<◌, ◌≤◌, List, [], ◌∷◌, ◌++◌, Option, Some, None, length, get_or, take, drop, drop-cons, add-one, slice_get, decimal, refl, sym, ap, ◌∙◌, arith, append_assoc, length-append}
 use Rattle.std.specs.List.{flat_map}
-use Rattle.std.proofs.lemmas.List.{take_more, take_all, flat_map_more}
-use Rattle.certificate.specs.Text.{PointLine, point_line, lines_of, point_text, points_text, entry_line, entries_text, head_of, text_of}
+use Rattle.std.proofs.lemmas.List.{append-nil, take_more, take_all, flat_map_more}
+use Rattle.std.proofs.lemmas.Option.{slice_get_read, slice_get_past}
+use Rattle.certificate.specs.Text.{PointLine, point_line, lines_of, terms_text, point_text, points_text, entry_line, entries_text, head_of, text_of}
 use Rattle.certificate.specs.declared.cert.Version.{Version}
 use Rattle.certificate.specs.declared.cert.Version.TheVariants.{One, Two}
 use Rattle.certificate.specs.declared.cert.Entry.{Entry}
@@ -10,6 +11,18 @@ use Rattle.certificate.specs.declared.cert.Cert.{Cert}
 use Rattle.certificate.specs.declared.cert.Point.{Point}
 use Rattle.certificate.specs.declared.cert.Terms.{Terms}
 use Rattle.certificate.proofs.PointFacts.{lines_count}
+
+pub terms_there : (ts : List Terms) (i : ℕ) (t : Terms) (old new : List ℕ) → i < length ts → t ≡ get_or ts i t → new ≡ old ++ terms_text (Some t) → new ≡ old ++ terms_text (slice_get ts i)
+terms_there ts i t old new h e is = is ∙ ap (λ (o : Option Terms). old ++ terms_text o) (sym (slice_get_read ts (length ts) i t refl h e))
+
+pub terms_past : (ts : List Terms) (i : ℕ) (old : List ℕ) → length ts ≤ i → old ≡ old ++ terms_text (slice_get ts i)
+terms_past ts i old h = sym (ap (λ (o : Option Terms). old ++ terms_text o) (slice_get_past ts i h) ∙ append-nil old)
+
+pub length_there : (ts : List Terms) (i : ℕ) (t : Terms) (n : ℕ) → i < length ts → t ≡ get_or ts i t → n ≡ length (terms_text (Some t)) → n ≡ length (terms_text (slice_get ts i))
+length_there ts i t n h e is = is ∙ ap (λ (o : Option Terms). length (terms_text o)) (sym (slice_get_read ts (length ts) i t refl h e))
+
+pub length_past : (ts : List Terms) (i : ℕ) → length ts ≤ i → 0 ≡ length (terms_text (slice_get ts i))
+length_past ts i h = sym (ap (λ (o : Option Terms). length (terms_text o)) (slice_get_past ts i h))
 
 line_at : (ps : List Point) (ts : List Terms) (i : ℕ) (p : Point) (d : PointLine) → i < length ps → p ≡ get_or ps i p → get_or (lines_of ps ts) i d ≡ point_line p (slice_get ts i)
 line_at [] ts i p d h e = absurd (omega arith)
@@ -33,6 +46,10 @@ points_length ps ts i p h e =
     let out = flat_map point_text (take i (lines_of ps ts)) in
     let line = point_text (point_line p (slice_get ts i)) in
     ap length (sym (points_pushed ps ts i p [] out (out ++ line) h e refl refl)) ∙ length-append out line
+
+pub points_measured : (ps : List Point) (ts : List Terms) (i : ℕ) (p : Point) (n k m : ℕ) → i < length ps → p ≡ get_or ps i p → n ≡ length (flat_map point_text (take i (lines_of ps ts)))
+    → k ≡ length (point_text (point_line p (slice_get ts i))) → m ≡ n + k → m ≡ length (flat_map point_text (take (i + 1) (lines_of ps ts)))
+points_measured ps ts i p n k m h e before here sum = omega (arith, points_length ps ts i p h e, before, here, sum)
 
 pub all_lines : (ps : List Point) (ts : List Terms) (i : ℕ) → length ps ≤ i → take i (lines_of ps ts) ≡ lines_of ps ts
 all_lines ps ts i h = take_all i (lines_of ps ts) (omega (arith, h, lines_count ps ts))

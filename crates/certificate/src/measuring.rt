@@ -25,20 +25,30 @@ fn terms_len(terms: &Terms) -> u64
         + decimal_len(terms.need)
 }
 
+/// How long the terms at this place are, where there are so many.
+#[tactic(auto, using(crate::proofs::WritingFacts::length_there, crate::proofs::WritingFacts::length_past))]
+fn terms_len_at(terms: &[Terms], at: usize) -> u64
+    ensures exact { result ≡ length (terms_text (slice_get terms.now at)) }
+    ensures short { result ≤ 160 }
+{
+    if at < terms.len() {
+        terms_len(&terms[at])
+    } else {
+        0
+    }
+}
+
 /// How long the line of the point at this place is, with its terms where it has some.
 fn point_len(point: Point, terms: &[Terms], at: usize) -> u64
     ensures exact { result ≡ length (point_text (point_line point (slice_get terms.now at))) }
     ensures short { result ≤ 250 }
 {
-    let ends = 4 + decimal_len(u128::from(point.offset)) + decimal_len(u128::from(point.end));
-    if at < terms.len() {
-        ends + terms_len(&terms[at])
-    } else {
-        ends
-    }
+    4 + decimal_len(u128::from(point.offset))
+        + decimal_len(u128::from(point.end))
+        + terms_len_at(terms, at)
 }
 
-#[tactic(auto, using(crate::proofs::WritingFacts::points_length, crate::proofs::WritingFacts::all_lines))]
+#[tactic(auto, using(crate::proofs::WritingFacts::points_measured, crate::proofs::WritingFacts::all_lines))]
 fn points_len(entry: &Entry) -> u64
     requires { IsEntry entry.now }
     ensures exact { result ≡ length (points_text entry.now) }

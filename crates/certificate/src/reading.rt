@@ -23,14 +23,16 @@ fn push_point(entry: &mut Entry, point: Point, terms: Option<Terms>) -> Result<(
     Ok(())
 }
 
-/// Appends a point to the last entry.
+/// Appends a point to the last entry. No point is copied.
 fn add_point(entries: &mut Vec<Entry>, point: Point, terms: Option<Terms>) -> Result<(), AllocError>
     ensures { OnOk result (entries.new.items ≡ add_point entries.old.items (point_line point terms)) }
 {
-    match entries.last_mut() {
-        Some(entry) => push_point(entry, point, terms),
-        None => Ok(()),
-    }
+    let Some(mut entry) = entries.pop() else {
+        return Ok(());
+    };
+    push_point(&mut entry, point, terms)?;
+    entries.push(entry)?;
+    Ok(())
 }
 
 /// Takes what a line says.

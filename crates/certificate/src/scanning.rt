@@ -1,6 +1,6 @@
 //! The line of a point, read at once.
 
-ghost use Rattle.std.specs.Prelude.{◌≡◌, ◌≤◌, ◌<◌, ◌^◌, ◌++◌, ◌∷◌, ℕ, length, take, decimal, IfSome};
+ghost use Rattle.std.specs.Prelude.{◌≡◌, ◌≤◌, ◌<◌, ◌^◌, ◌++◌, ◌∷◌, ℕ, length, take, slice_index, decimal, IfSome, IsTrue};
 ghost use Rattle.std.specs.Str.Parse.{AllDigits, digits_value};
 ghost use Rattle.certificate.specs.Text.{point_line, point_text, IsPoint, IsTerms};
 ghost use Rattle.certificate.specs.Machine.{end_ender};
@@ -33,11 +33,19 @@ fn front_digits(bytes: &[u8]) -> (u64, usize)
     (value, bytes.len())
 }
 
+/// Whether so many digits in front of the bytes do not begin with a zero, but for a single one.
+fn is_canonical(bytes: &[u8], len: usize) -> bool
+    requires { len < length bytes.now }
+    ensures { IsTrue result → slice_index bytes.now 0 ≡ 48 → len ≤ 1 }
+{
+    len <= 1 || bytes[0] != b'0'
+}
+
 /// The number in front of the bytes, and what follows the byte `ender` behind it.
 ///
 /// There is none where this byte is not behind a canonical decimal, and for some numbers of 18
 /// digits and more.
-#[tactic(auto, using(crate::proofs::ScanFacts::number_in_front))]
+#[tactic(auto, using(crate::proofs::ScanFacts::number_taken))]
 fn take_number(bytes: &[u8], ender: u8) -> Option<(u64, &[u8])>
     ensures text { IfSome result (λ r. bytes.now ≡ decimal r.0 ++ (ender ∷ r.1.now)) }
     ensures small { IfSome result (λ r. r.0 < 10 ^ 18) }
@@ -52,10 +60,8 @@ fn take_number(bytes: &[u8], ender: u8) -> Option<(u64, &[u8])>
     if bytes[len] != ender {
         return None;
     }
-    if bytes[0] == b'0' {
-        if len > 1 {
-            return None;
-        }
+    if !is_canonical(bytes, len) {
+        return None;
     }
     Some((value, &bytes[len + 1..]))
 }

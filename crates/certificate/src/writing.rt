@@ -27,6 +27,18 @@ fn push_terms(out: &mut Vec<u8>, terms: &Terms) -> Result<(), AllocError>
     push_term(out, terms.need)
 }
 
+/// Appends the terms at this place, where there are so many.
+#[tactic(auto, using(crate::proofs::WritingFacts::terms_there, crate::proofs::WritingFacts::terms_past))]
+fn push_terms_at(out: &mut Vec<u8>, terms: &[Terms], at: usize) -> Result<(), AllocError>
+    ensures { OnOk result (out.new.items ≡ out.old.items ++ terms_text (slice_get terms.now at)) }
+{
+    if at < terms.len() {
+        push_terms(out, &terms[at])
+    } else {
+        Ok(())
+    }
+}
+
 /// Appends the line of the point at this place, with its terms where it has some.
 fn push_point(out: &mut Vec<u8>, point: Point, terms: &[Terms], at: usize) -> Result<(), AllocError>
     ensures { OnOk result (out.new.items ≡ out.old.items ++
@@ -35,9 +47,7 @@ fn push_point(out: &mut Vec<u8>, point: Point, terms: &[Terms], at: usize) -> Re
     out.extend_from_slice(b"p ")?;
     push_field(out, point.offset, b' ')?;
     push_number(out, point.end)?;
-    if at < terms.len() {
-        push_terms(out, &terms[at])?;
-    }
+    push_terms_at(out, terms, at)?;
     out.push(b'\n')?;
     Ok(())
 }

@@ -133,6 +133,15 @@ point_right p l line bytes rest e right h is =
     let r = reads_point p l line says.More bytes rest e (point_some p line e right) h is in
     subst (λ (x : Progress). IsProgress x.place x.line) r.progress (lines_all (record { place = p; line = line }) (take (length bytes - length rest) bytes) right)
 
+-- the same, as what a call leaves and says
+pub point_progress : (p : Place) (l : PointLine) (line : ℕ) (bytes rest : List ℕ) → p.expected ≡ Rest word.Point 0 → IsProgress p line → IsLineOf p.version l → bytes ≡ point_text l ++ rest
+    → record { place = after_point p.version p.task p.after (p.points - 1); line = line + 1 } ≡ after_bytes (record { place = p; line = line }) (take (length bytes - length rest) bytes)
+point_progress p l line bytes rest e right h is = sym (reads_point p l line says.More bytes rest e (point_some p line e right) h is).progress
+
+pub point_said : (p : Place) (l : PointLine) (line : ℕ) (s : LineStep) (bytes rest : List ℕ) → p.expected ≡ Rest word.Point 0 → IsProgress p line → IsLineOf p.version l → bytes ≡ point_text l ++ rest
+    → point_step l ≡ said_after s (record { place = p; line = line }) (take (length bytes - length rest) bytes)
+point_said p l line s bytes rest e right h is = sym (reads_point p l line s bytes rest e (point_some p line e right) h is).step
+
 -- a number in front of the bytes
 pub number_in_front : (bytes : List ℕ) (n v ender : ℕ) → n < length bytes → 0 < n → AllDigits 10 (take n bytes) → v ≡ digits_value 10 (take n bytes) → v < 10 ^ 18
     → get_or bytes n 0 ≡ ender → (get_or bytes 0 0 ≡ 48 → n ≡ 1) → bytes ≡ decimal v ++ (ender ∷ drop (n + 1) bytes)

@@ -12,13 +12,13 @@ loop-at-preserved c =
     let i = c.loop-at.at in
     let b = take i bs in
     let rest = take (length bs - i) (drop i bs) in
-    let n = c.feed_line.result.0 in
+    let n = c.feed_line-len.result.0 in
     let next : take (i + n) bs ≡ b ++ take n rest = line_on bs i n ∙ ap (λ (t : List ℕ). b ++ take n t) (sym (take_rest bs i)) in
     record {
-      within = omega (arith, c.feed_line.ensures.first.within, ap length (take_rest bs i), length-drop i bs);
-      stands = rw next (c.feed_line.ensures.stands b c.loop-at.invariant.stands);
-      so_far = so_far_next add_step add_step-quiet [] c.loop-at.entries.items c.add_step.new.entries.items c.feed_line.result.1 b (take (i + n) bs) (take n rest) next
-          (line_few rest n c.feed_line.ensures.first) c.in_ok-add_step.ensures c.loop-at.invariant.so_far (λ more cert p. c.feed_line.ensures.says b more cert c.loop-at.invariant.stands p);
+      within = omega (arith, c.feed_line-len.ensures.first.within, ap length (take_rest bs i), length-drop i bs);
+      stands = rw next (c.feed_line-len.ensures.stands b c.loop-at.invariant.stands);
+      so_far = so_far_next add_step add_step-quiet [] c.loop-at.entries.items c.add_step.new.entries.items c.feed_line-len.result.1 b (take (i + n) bs) (take n rest) next
+          (line_few rest n c.feed_line-len.ensures.first) c.in_ok-add_step.ensures c.loop-at.invariant.so_far (λ more cert p. c.feed_line-len.ensures.says b more cert c.loop-at.invariant.stands p);
     }
 
 pub returns-then-is_over-clause-found : goal.returns-then-is_over-clause-found

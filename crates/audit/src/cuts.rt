@@ -38,6 +38,7 @@ pub fn cut_sums<M: Tabled>(
     requires served { Serves M.cuts sheet.now }
     ensures { IfOk result (λ sums. AreSums run.now sums.items) }
 {
+    // for the proof: the sheet is valid
     let _valid = sheet.len();
     let mut sums = Vec::new(alloc);
     for job in run.jobs.as_slice() {

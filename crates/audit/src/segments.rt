@@ -81,6 +81,7 @@ pub fn segment_place<M: Tabled>(
     requires sums { AreSums run.now sums.now }
     ensures { IfOk result (IsFirstPlace (is_segment_broken M.cuts sheet.now run.now) run.now) }
 {
+    // for the proof: the sheet is valid
     let _valid = sheet.len();
     let mut served = no_service(alloc, run)?;
     let mut inside = None;

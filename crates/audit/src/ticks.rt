@@ -44,6 +44,7 @@ pub fn first_shortage(alloc: Global, sheet: &Sheet, run: &Run) -> Result<Option<
     requires { IsSmall run.now }
     ensures { IfOk result (λ f. f ≡ short_in (sbf_of sheet.now.supply) run.now) }
 {
+    // for the proof: the sheet is valid
     let _valid = sheet.len();
     let Some(t) = first_short(alloc, sheet, run)? else {
         return Ok(None);

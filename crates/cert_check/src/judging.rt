@@ -62,7 +62,8 @@ pub fn judge_cert<P: Policy, M: Preemption, S: Supply>(
     supply.known();
     failed_means::<P, M, S>();
     points_bound::<P, M, S>();
-    let _tasks = sheet.len();
+    // for the proof: the sheet is valid
+    let _valid = sheet.len();
     first_failed::<P, M, S>(sheet, supply, cert, deadlines)
 }
 

@@ -99,7 +99,8 @@ pub fn keep_blocker<P: Policy, M: Preemption>(
     requires before { IsBlocker P.meaning M.cuts sheet.now i from before }
     ensures { IsBlocker P.meaning M.cuts sheet.now i a result }
 {
-    let _count = sheet.len();
+    // for the proof: the sheet is valid
+    let _valid = sheet.len();
     if block_at::<P, M>(sheet, i, a, before.task, begun) == before.block {
         return before;
     }

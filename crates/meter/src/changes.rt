@@ -59,7 +59,8 @@ fn least_between<P: Policy>(sheet: &Sheet, i: u32, o: u32, e: u64, from: u64, to
     ensures least { IsLeast (λ b. e ≤ reach_at P.meaning sheet.now i o b) result }
     ensures within { result ≤ to }
 {
-    let _count = sheet.len();
+    // for the proof: the sheet is valid
+    let _valid = sheet.len();
     let mut low = from;
     let mut high = to;
     while low + 1 < high {
@@ -82,7 +83,8 @@ fn least_reach<P: Policy>(sheet: &Sheet, i: u32, o: u32, e: u64, a: u64) -> Opti
     requires less { reach_at P.meaning sheet.now i o a < e }
     ensures { IsLeastTo (λ b. e ≤ reach_at P.meaning sheet.now i o b) greatest_number result }
 {
-    let _count = sheet.len();
+    // for the proof: the sheet is valid
+    let _valid = sheet.len();
     if cap_reach::<P>(sheet, i, o, LAST) < e {
         return None;
     }
@@ -141,7 +143,8 @@ pub fn counting<P: Policy>(sheet: &Sheet, i: u32, o: u32, a: u64) -> Counted
     ensures counted { IsCounted P.meaning sheet.now i a o result.count result.change }
     ensures bound { result.count ≤ 5000000000000000 }
 {
-    let _count = sheet.len();
+    // for the proof: the sheet is valid
+    let _valid = sheet.len();
     Counted {
         count: compared::<P>(sheet, i, a, o),
         change: next_change::<P>(sheet, i, o, a).unwrap_or(NEVER),

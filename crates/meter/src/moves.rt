@@ -74,7 +74,8 @@ fn recount<P: Policy>(sheet: &Sheet, i: u32, o: u32, a: u64, tracks: &mut Tracks
     requires tracking { IsTrackingAt P.meaning sheet.now i tracks.old }
     ensures { IsRecounted P.meaning sheet.now i a o tracks.old tracks.new }
 {
-    let _count = sheet.len();
+    // for the proof: the sheet is valid
+    let _valid = sheet.len();
     let before = tracks.places[o as usize];
     let counted = counting::<P>(sheet, i, o, a);
     let place = Place {

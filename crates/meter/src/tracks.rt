@@ -78,7 +78,8 @@ pub fn put<P: Policy>(
     ensures places { places.new ≡ set places.old o place }
     ensures sum { result ≡ sum_below (asked_of P.meaning sheet.now i places.new) (length sheet.now.tasks) }
 {
-    let _count = sheet.len();
+    // for the proof: the sheet is valid
+    let _valid = sheet.len();
     let before = places[o as usize];
     let whole = sum + part::<P>(sheet, i, o, &place) - part::<P>(sheet, i, o, &before);
     places[o as usize] = place;

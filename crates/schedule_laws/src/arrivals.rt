@@ -69,7 +69,8 @@ pub fn crowded(sheet: &Sheet, run: &Run, k: u32) -> bool
     requires arrivals { AreEarly run.now }
     ensures { result ≡ is_crowded sheet.now run.now k }
 {
-    let _tasks = sheet.len();
+    // for the proof: the sheet is valid
+    let _valid = sheet.len();
     for n in 0..run.jobs.len() as u32 {
         if is_crowded_since(sheet, run, k, n) {
             return true;

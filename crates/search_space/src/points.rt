@@ -118,7 +118,8 @@ pub fn next_point<P: Policy>(sheet: &Sheet, i: u32, a: u64, below: u64) -> Optio
     }
     // The numbers never fall, so those that are the same at two offsets are so between them.
     across_gap::<P>();
-    let _tasks = sheet.len();
+    // for the proof: the sheet is valid
+    let _valid = sheet.len();
     let around = gallop::<P>(sheet, i, a, below);
     let next = bisect::<P>(sheet, i, a, below, around);
     if next < below { Some(next) } else { None }

@@ -18,6 +18,7 @@ pub fn laws<P: Policy, M: Preemption, S: Supply>(sheet: &Sheet, supply: &S)
     demand_grows::<P, M>();
     need_falls::<P, M>();
     across_gap::<P>();
-    let _tasks = sheet.len();
+    // for the proof: the sheet is valid
+    let _valid = sheet.len();
     supply.known();
 }

@@ -70,6 +70,7 @@ pub fn promise(alloc: Global, table: &Table) -> Result<Vec<u64>, AllocError>
     ensures floor { IfOk result (λ times.
         (d : ℕ) → promised table.now.cycle times.items d ≡ floor_of table.now d) }
 {
+    // for the proof: the table is valid
     let _valid = table.cycle();
     let ticks = ticks_of_two(alloc, table)?;
     let once = ticks.len() / 2;

@@ -186,6 +186,7 @@ fn check_task(n: u32, earlier: &[Task], task: &Task) -> Result<(), SheetRefusal>
     ensures curve { IsCurve task.now.curve }
 {
     let place = Place::Task(n);
+    // for the proof: the curve is valid
     let _valid = task.curve.horizon();
     holds(
         is_name(task.name.as_str()),

@@ -45,7 +45,8 @@ fn is_short(sheet: &Sheet, run: &Run, counts: &[u64], t: u64) -> bool
         is_short_by (sbf_of sheet.now.supply) run.now (u + 1) ≡ false }
     ensures { result ≡ is_short_by (sbf_of sheet.now.supply) run.now (t + 1) }
 {
-    let _tasks = sheet.len();
+    // for the proof: the sheet is valid
+    let _valid = sheet.len();
     !is_on(run.ticks.as_slice()[t as usize]) && !off_allowed(sheet, counts, t)
 }
 

@@ -16,5 +16,5 @@ returns-clause-counted g c =
 
 pub returns-clause-bound : goal.returns-clause-bound
 returns-clause-bound g c =
-    let ok = c.len-count.ensures.valid in
+    let ok = c.len-valid.ensures.valid in
     omega (arith, c.compared.ensures, compared_high g.P.Policy.meaning c.args.sheet.now ok (g.met.P.Policy.lawful c.args.sheet.now ok) c.args.i c.args.a c.args.o c.requires.i c.requires.o c.requires.offset)

@@ -17,7 +17,7 @@ put-tracks-requires-clause-small g c =
     let o = c.args.o in
     let places = c.args.tracks.now.places.items in
     let before : c.index-before.result.now ≡ place_of places o = get_or_read places o c.index-before.result.now (omega (arith, c.requires.tracking.count, c.requires.o)) c.index-before.ensures no_place in
-    let old = small (task_at sheet o) (c.len-count.ensures.valid.each o c.requires.o) (place_of places o) (c.requires.tracking.each o c.requires.o).near in
+    let old = small (task_at sheet o) (c.len-valid.ensures.valid.each o c.requires.o) (place_of places o) (c.requires.tracking.each o c.requires.o).near in
     record { value = omega (arith, ap (λ (s : Place). s.end.value) before, old.value); count = c.counting-counted.ensures.bound }
 
 pub returns : goal.returns

@@ -9,13 +9,13 @@ use Rattle.windows.proofs.supplied.is_short.Goals as goal
 pub off_allowed-requires : goal.off_allowed-requires
 off_allowed-requires c =
     let sheet = c.args.sheet.now in
-    let valid = c.len-tasks.ensures.valid in
+    let valid = c.len-valid.ensures.valid in
     are_promised (sbf_of sheet.supply) (stated_starts sheet valid) (λ d. stated_grows sheet d valid) c.args.run.now c.args.counts.now c.args.t c.requires.counts c.requires.free (omega arith)
 
 pub returns-then-not-is_on : goal.returns-then-not-is_on
 returns-then-not-is_on c =
     let sheet = c.args.sheet.now in
-    let valid = c.len-tasks.ensures.valid in
+    let valid = c.len-valid.ensures.valid in
     let starts = stated_starts sheet valid in
     let off : is_on (tick_at c.args.run.now c.args.t) ≡ false = cc in
     elim (cases_Bool c.off_allowed.result) [
@@ -31,7 +31,7 @@ returns-then-not-is_on c =
 pub returns-else-not-is_on : goal.returns-else-not-is_on
 returns-else-not-is_on c =
     let sheet = c.args.sheet.now in
-    let valid = c.len-tasks.ensures.valid in
+    let valid = c.len-valid.ensures.valid in
     let starts = stated_starts sheet valid in
     let on : is_on (tick_at c.args.run.now c.args.t) ≡ true = cc in
     let past = are_promised (sbf_of sheet.supply) starts (λ d. stated_grows sheet d valid) c.args.run.now c.args.counts.now c.args.t c.requires.counts c.requires.free (omega arith) in

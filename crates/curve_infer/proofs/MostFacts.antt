@@ -1,9 +1,9 @@
 use Rattle.std.proofs.Common.{◌≡◌, ℕ, zero, suc, ◌+◌, ◌-◌, ◌*◌, ◌<◌, ◌≤◌, List, length, get_or, refl, ap, subst, arith, inl, inr}
 use Rattle.std.proofs.lemmas.Bool.{cases_lt}
-use Rattle.lists.specs.Sums.{max_below}
-use Rattle.lists.proofs.SumFacts.{max_at_least}
+use Rattle.lists.specs.Sums.{max_below, min_to}
+use Rattle.lists.proofs.SumFacts.{max_at_least, min_low, min_at}
 use Rattle.curve_infer.specs.Traces.{IsTrace}
-use Rattle.curve_infer.specs.Gaps.{gap_of, min_to}
+use Rattle.curve_infer.specs.Gaps.{gap_of}
 use Rattle.curve_infer.specs.Curves.{times_in, last_of, most_of, IsLeastLength}
 use Rattle.curve_infer.proofs.CountFacts.{times_split, times_none, times_few, times_last, times_latest, times_order, early_counts, counts_early}
 
@@ -19,28 +19,6 @@ max_at f (suc n) =
     elim (cases_lt (max_below f (suc n)) (f (suc n))) [
       | inl c ↦ record { place = suc n; is = omega (arith, c) }
       | inr c ↦ record { place = at.place; is = omega (arith, at.is, c) }
-    ]
-
-min_low : (f : ℕ → ℕ) (n k : ℕ) → k ≤ n → min_to f n ≤ f k
-min_low f zero k h = let e : k ≡ 0 = omega arith in omega (arith, ap f e)
-min_low f (suc n) k h = elim (cases_lt k (suc n)) [
-  | inl c ↦ omega (arith, min_low f n k (omega arith))
-  | inr c ↦ let e : k ≡ suc n = omega arith in omega (arith, ap f e)
-]
-
--- the least stands somewhere
-record IsLeastAt (f : ℕ → ℕ) (n v : ℕ) : Type 0 where
-  place : ℕ
-  within : place ≤ n
-  is : f place ≡ v
-
-min_at : (f : ℕ → ℕ) (n : ℕ) → IsLeastAt f n (min_to f n)
-min_at f zero = record { place = 0; within = omega arith; is = refl }
-min_at f (suc n) =
-    let at = min_at f n in
-    elim (cases_lt (min_to f n) (f (suc n))) [
-      | inl c ↦ record { place = at.place; within = omega (arith, at.within); is = omega (arith, at.is, c) }
-      | inr c ↦ record { place = suc n; within = omega arith; is = omega (arith, c) }
     ]
 
 module _ (times : List ℕ) (ok : IsTrace times) where

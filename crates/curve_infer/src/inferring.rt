@@ -3,7 +3,8 @@ ghost use Rattle.std.specs.Prelude.{◌≡◌, ◌-◌, ◌≤◌, ◌<◌, leng
 ghost use Rattle.lists.specs.Limits.{greatest_number};
 ghost use Rattle.curve.specs.Validity.{IsCurve};
 ghost use Rattle.curve_infer.specs.Traces.{IsTrace};
-ghost use Rattle.curve_infer.specs.Gaps.{gap_of, min_to};
+ghost use Rattle.lists.specs.Sums.{min_to};
+ghost use Rattle.curve_infer.specs.Gaps.{gap_of};
 ghost use Rattle.curve_infer.specs.Curves.{IsLeastLength, IsNextRise, Respects, inferred_curve, IsLeastCurve, KeepsCurves};
 
 use crate::trace::Trace;

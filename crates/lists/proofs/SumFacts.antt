@@ -1,7 +1,7 @@
 use Rattle.std.proofs.Common.{◌≡◌, ℕ, zero, suc, ◌+◌, ◌*◌, ◌<◌, ◌≤◌, ◌==◌, Bool, true, false, cond, List, length, get_or, take, count_by, refl, ap, inl, inr, arith, add-one}
 use Rattle.std.proofs.lemmas.Bool.{cases_lt, ne_eqb}
 use Rattle.std.proofs.lemmas.List.Sums.{count_by_more_yes, count_by_more_no}
-use Rattle.lists.specs.Sums.{sum_below, max_below}
+use Rattle.lists.specs.Sums.{sum_below, max_below, min_to}
 
 pub at_most_one : (b : Bool) → cond {A = ℕ} b 1 0 ≤ 1
 at_most_one true = omega arith
@@ -11,6 +11,11 @@ at_most_one false = omega arith
 pub cond_mono : (b : Bool) (m n : ℕ) → m ≤ n → cond b m 0 ≤ cond b n 0
 cond_mono true m n h = h
 cond_mono false m n h = omega arith
+
+-- a test that passes wherever another does counts no less
+pub cond_le : (b c : Bool) → (b ≡ true → c ≡ true) → cond {A = ℕ} b 1 0 ≤ cond {A = ℕ} c 1 0
+cond_le true c h = rw (h refl) (omega arith)
+cond_le false c h = omega arith
 
 pub sum_le : (f g : ℕ → ℕ) (n : ℕ) → ((k : ℕ) → k < n → f k ≤ g k) → sum_below f n ≤ sum_below g n
 sum_le f g zero h = omega arith
@@ -68,3 +73,26 @@ count_next p xs d n h = grind (arith, count_by_more_yes, count_by_more_no)
 -- one more element counted
 pub count_more : {X : Type 0} (p : X → Bool) (xs : List X) (d : X) (n : ℕ) → n < length xs → count_by p (take (suc n) xs) ≡ count_by p (take n xs) + cond (p (get_or xs n d)) 1 0
 count_more p xs d n h = rw add-one at (count_next p xs d n h)
+
+pub min_low : (f : ℕ → ℕ) (n k : ℕ) → k ≤ n → min_to f n ≤ f k
+min_low f zero k h = let e : k ≡ 0 = omega arith in omega (arith, ap f e)
+min_low f (suc n) k h = elim (cases_lt k (suc n)) [
+  | inl c ↦ omega (arith, min_low f n k (omega arith))
+  | inr c ↦ let e : k ≡ suc n = omega arith in omega (arith, ap f e)
+]
+
+-- one of f 0, .., f n is v
+pub record IsAt (f : ℕ → ℕ) (n v : ℕ) : Type 0 where
+  pub place : ℕ
+  pub within : place ≤ n
+  pub is : f place ≡ v
+
+-- the least stands somewhere
+pub min_at : (f : ℕ → ℕ) (n : ℕ) → IsAt f n (min_to f n)
+min_at f zero = record { place = 0; within = omega arith; is = refl }
+min_at f (suc n) =
+    let at = min_at f n in
+    elim (cases_lt (min_to f n) (f (suc n))) [
+      | inl c ↦ record { place = at.place; within = omega (arith, at.within); is = omega (arith, at.is, c) }
+      | inr c ↦ record { place = suc n; within = omega arith; is = omega (arith, c) }
+    ]

@@ -2,7 +2,7 @@
 use Rattle.std.proofs.Common.{◌≡◌, ℕ, zero, suc, ◌+◌, ◌<◌, ◌≤◌, Bool, true, false, cond, List, [], ◌∷◌, ◌++◌, length, get_or, take, drop, count_by, refl, ◌∙◌, ap, arith, length-drop}
 use Rattle.std.proofs.lemmas.Bool.{false_from_ne_true}
 use Rattle.std.proofs.lemmas.List.{take-append-le, take_all, get_or_at, get_or_append_left, drop-append-le, append_assoc, append-nil}
-use Rattle.lists.proofs.SumFacts.{count_more}
+use Rattle.lists.proofs.SumFacts.{cond_le, count_more}
 use Rattle.task_sheet.specs.declared.tasks.Job.{Job}
 use Rattle.run_model.specs.declared.run.Run.{Run}
 use Rattle.run_model.specs.declared.run.Tick.{Tick}
@@ -24,10 +24,6 @@ count_push {X} p xs x =
     let front : take (length xs) (xs ++ x ∷ []) ≡ xs = take-append-le (length xs) xs (x ∷ []) (omega arith) ∙ take_all (length xs) xs (omega arith) in
     let last : get_or (xs ++ x ∷ []) (length xs) x ≡ x = get_or_at xs x [] x (length xs) refl in
     omega (arith, step, ap (λ (l : List X). count_by p l) all, ap (λ (l : List X). count_by p l) front, ap (λ (y : X). cond {A = ℕ} (p y) 1 0) last)
-
-cond_le : (b c : Bool) → (b ≡ true → c ≡ true) → cond {A = ℕ} b 1 0 ≤ cond {A = ℕ} c 1 0
-cond_le true c h = rw (h refl) (omega arith)
-cond_le false c h = omega arith
 
 front_le : {X : Type 0} (p q : X → Bool) (xs : List X) (d : X) (n : ℕ) → n ≤ length xs →
     ((k : ℕ) → k < n → p (get_or xs k d) ≡ true → q (get_or xs k d) ≡ true) →

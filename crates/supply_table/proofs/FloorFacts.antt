@@ -1,35 +1,14 @@
-use Rattle.std.proofs.Common.{◌≡◌, ℕ, zero, suc, ◌+◌, ◌-◌, ◌*◌, ◌%◌, ◌<◌, ◌≤◌, Bool, true, cond, refl, sym, ◌∙◌, ap, subst, inl, inr, arith, add-one}
+use Rattle.std.proofs.Common.{◌≡◌, ℕ, ◌+◌, ◌-◌, ◌*◌, ◌%◌, ◌<◌, ◌≤◌, Bool, true, cond, refl, sym, ◌∙◌, ap, subst, arith, add-one}
 use Rattle.std.specs.List.{list_any}
-use Rattle.std.proofs.lemmas.Bool.{cases_lt, leb-true}
+use Rattle.std.proofs.lemmas.Bool.{leb-true}
 use Rattle.std.proofs.lemmas.Bool.Decides.{nat_tests}
 use Rattle.std.proofs.Math.Nat.{add-mod_right, mod-add-mod}
 use Rattle.std.proofs.lemmas.Nat.{mod_below}
+use Rattle.lists.proofs.SumFacts.{IsAt, min_low, min_at}
 use Rattle.supply_table.specs.TableParts.{TableParts}
 use Rattle.supply_table.specs.Validity.{IsTable, is_cycle}
-use Rattle.supply_table.specs.Floors.{count_in, is_in_slot, is_supplied, on_of, min_to, floor_of}
+use Rattle.supply_table.specs.Floors.{count_in, is_in_slot, is_supplied, on_of, floor_of}
 use Rattle.supply_table.proofs.CountFacts.{count_none, count_step, count_same, IsPeriodic, count_cycle, count_cycles}
-
-min_low : (f : ℕ → ℕ) (n k : ℕ) → k ≤ n → min_to f n ≤ f k
-min_low f zero k h = let e : k ≡ 0 = omega arith in omega (arith, ap f e)
-min_low f (suc n) k h = elim (cases_lt k (suc n)) [
-  | inl c ↦ omega (arith, min_low f n k (omega arith))
-  | inr c ↦ let e : k ≡ suc n = omega arith in omega (arith, ap f e)
-]
-
--- the least stands somewhere
-pub record IsAt (f : ℕ → ℕ) (n v : ℕ) : Type 0 where
-  pub place : ℕ
-  pub within : place ≤ n
-  pub is : f place ≡ v
-
-min_at : (f : ℕ → ℕ) (n : ℕ) → IsAt f n (min_to f n)
-min_at f zero = record { place = 0; within = omega arith; is = refl }
-min_at f (suc n) =
-    let at = min_at f n in
-    elim (cases_lt (min_to f n) (f (suc n))) [
-      | inl c ↦ record { place = at.place; within = omega (arith, at.within); is = omega (arith, at.is, c) }
-      | inr c ↦ record { place = suc n; within = omega arith; is = omega (arith, c) }
-    ]
 
 pub cycle_low : (table : TableParts) → IsTable table → 1 ≤ table.cycle
 cycle_low table ok = let h = ok.cycle in grind (arith, nat_tests)

@@ -1,6 +1,6 @@
 use Rattle.std.specs.Prelude.{ℕ, zero, suc, ◌+◌, ◌-◌, ◌%◌, ◌&&◌, Bool, cond, min, List, [], ◌∷◌, ◌++◌, nat_le, nat_lt, if◌then◌else◌}
 use Rattle.std.specs.List.{list_any}
-use Rattle.lists.specs.Sums.{sum_below}
+use Rattle.lists.specs.Sums.{sum_below, min_to}
 use Rattle.supply_table.specs.declared.table.Slot.{Slot}
 use Rattle.supply_table.specs.TableParts.{TableParts}
 
@@ -19,11 +19,6 @@ count_in test p d = sum_below (λ k. cond (test (p + k)) 1 0) d
 -- the ticks of [p, p + d) that the table supplies
 abbrev pub on_of : TableParts → ℕ → ℕ → ℕ
 on_of table p d = count_in (is_supplied table) p d
-
--- the least of f 0, .., f n
-abbrev pub min_to : (ℕ → ℕ) → ℕ → ℕ
-min_to f zero = f 0
-min_to f (suc n) = min (min_to f n) (f (suc n))
 
 -- the ticks that the table supplies in every window of d ticks, whatever tick of the cycle it begins with
 unfoldable pub floor_of : TableParts → ℕ → ℕ

@@ -37,11 +37,17 @@ one_line_none (x ∷ xs) h = sum_by-cons (λ (y : ℕ). cond (y == 10) 1 0) x xs
 terms_one_line : (v : Version) (terms : Option Terms) → HasTerms v terms → IsOneLine (terms_text terms)
 terms_one_line v None h = tt
 terms_one_line One (Some t) h = absurd h
-terms_one_line Two (Some t) h =
-    (refl, one_line_append (decimal t.blocking) _ (decimal_wide_line t.blocking (omega (arith, h.blocking)))
-    (refl, one_line_append (decimal t.own) _ (decimal_wide_line t.own (omega (arith, h.own)))
-    (refl, one_line_append (decimal t.others) _ (decimal_wide_line t.others (omega (arith, h.others)))
-    (refl, decimal_wide_line t.need (omega (arith, h.need))))))
+terms_one_line Two (Some t) h = (
+  refl,
+  one_line_append (decimal t.blocking) _ (decimal_wide_line t.blocking (omega (arith, h.blocking))) (
+    refl,
+    one_line_append (decimal t.own) _ (decimal_wide_line t.own (omega (arith, h.own))) (
+      refl,
+      one_line_append (decimal t.others) _ (decimal_wide_line t.others (omega (arith, h.others)))
+          (refl, decimal_wide_line t.need (omega (arith, h.need))),
+    ),
+  ),
+)
 
 -- the line of a point without its newline
 abbrev point_front : PointLine → List ℕ
@@ -52,8 +58,14 @@ front_is l = simp append_assoc
 
 front_one_line : (v : Version) (l : PointLine) → IsLineOf v l → newlines (point_front l) ≡ 0
 front_one_line v l h =
-    one_line_none (point_front l) (refl, (refl, one_line_append (decimal l.point.offset) _ (decimal_wide_line l.point.offset (omega (arith, h.point.offset)))
-    (refl, one_line_append (decimal l.point.end) (terms_text l.terms) (decimal_wide_line l.point.end (omega (arith, h.point.end))) (terms_one_line v l.terms h.terms))))
+    one_line_none (point_front l) (
+      refl,
+      (
+        refl,
+        one_line_append (decimal l.point.offset) _ (decimal_wide_line l.point.offset (omega (arith, h.point.offset)))
+            (refl, one_line_append (decimal l.point.end) (terms_text l.terms) (decimal_wide_line l.point.end (omega (arith, h.point.end))) (terms_one_line v l.terms h.terms)),
+      ),
+    )
 
 -- what the bytes in front of a text leave is what stands behind it
 front_taken : (bytes text rest : List ℕ) → bytes ≡ text ++ rest → take (length bytes - length rest) bytes ≡ text

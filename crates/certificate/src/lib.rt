@@ -13,7 +13,6 @@ mod writing;
 
 pub use cert::{Cert, Entry, Point, Terms, Version};
 pub use laws::text_has_one_reading;
-
 pub use lines::Lines;
 pub use measuring::text_len;
 pub use reading::read_cert;

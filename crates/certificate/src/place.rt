@@ -34,14 +34,35 @@ pub enum Word {
 pub enum Field {
     Tasks,
     Window,
-    Bound { window: u64 },
-    Count { window: u64, bound: u64 },
+    Bound {
+        window: u64,
+    },
+    Count {
+        window: u64,
+        bound: u64,
+    },
     Offset,
-    Finish { offset: u64 },
-    Blocking { point: Point },
-    Own { point: Point, blocking: u128 },
-    Others { point: Point, blocking: u128, own: u128 },
-    Need { point: Point, blocking: u128, own: u128, others: u128 },
+    Finish {
+        offset: u64,
+    },
+    Blocking {
+        point: Point,
+    },
+    Own {
+        point: Point,
+        blocking: u128,
+    },
+    Others {
+        point: Point,
+        blocking: u128,
+        own: u128,
+    },
+    Need {
+        point: Point,
+        blocking: u128,
+        own: u128,
+        others: u128,
+    },
 }
 
 /// What must come next.
@@ -342,14 +363,28 @@ impl Place {
                 blocking,
                 own: value,
             })),
-            Field::Others { point, blocking, own } => self.with(Expected::Number(Field::Need {
+            Field::Others {
+                point,
+                blocking,
+                own,
+            } => self.with(Expected::Number(Field::Need {
                 point,
                 blocking,
                 own,
                 others: value,
             })),
-            Field::Need { point, blocking, own, others } => {
-                let terms = Terms { blocking, own, others, need: value };
+            Field::Need {
+                point,
+                blocking,
+                own,
+                others,
+            } => {
+                let terms = Terms {
+                    blocking,
+                    own,
+                    others,
+                    need: value,
+                };
                 self.after_terms(point, terms)
             }
         }

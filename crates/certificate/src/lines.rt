@@ -105,7 +105,7 @@ impl Lines {
     }
 
     /// Takes the line of a point at once, where it is whole in front of the bytes and must come.
-    #[tactic(auto, using(crate::proofs::ScanFacts::point_some, crate::proofs::ScanFacts::point_first, crate::proofs::ScanFacts::point_right, crate::proofs::ScanFacts::reads_point))]
+    #[tactic(auto, using(crate::proofs::ScanFacts::point_some))]
     fn advance_point(&mut self, bytes: &[u8]) -> Option<(usize, LineStep)>
         ensures first { IfSome result (λ r. IsFirstLine bytes.now r.0) }
         ensures progress { IfSome result (λ r. self.new ≡
@@ -134,7 +134,7 @@ impl Lines {
     /// many these are, and what the line says that ends with them.
     ///
     /// It does what `feed` does for each of these bytes; the line of a point is read at once.
-    #[tactic(auto, using(crate::proofs::FeedFacts::stands_fed, crate::proofs::FeedFacts::bad_fed, crate::proofs::FeedFacts::says_fed))]
+    #[tactic(auto, using(crate::proofs::FeedFacts::says_fed))]
     pub fn feed_line(&mut self, bytes: &[u8]) -> (usize, LineStep)
         ensures first { IsFirstLine bytes.now result.0 }
         ensures stands { (b : List ℕ) → StandsFor self.old b →

@@ -3,20 +3,19 @@ use Rattle.std.proofs.Common.{◌≢◌, ◌≡◌, ℕ, suc, zero, ◌+◌, ◌
 use Rattle.std.proofs.lemmas.List.{append-nil, take_more, take_all, take-append-drop, take-take, drop-take}
 use Rattle.std.proofs.lemmas.List.Sums.{sum_by-cons, sum_by-append, sum_by-take-le}
 use Rattle.std.proofs.lemmas.Bool.{cases_Bool, eq-eqb, ne_eqb}
-use Rattle.std.proofs.lemmas.Bool.Decides.{nat_tests}
 use Rattle.poet_io.specs.Texts.{Parses, BeginsText, newlines}
 use Rattle.certificate.specs.Text.{cert_format}
 use Rattle.certificate.specs.Steps.{steps_of}
 use Rattle.certificate.specs.Progress.{Progress}
 use Rattle.certificate.specs.FirstLines.{IsFirstLine, said_at, said_after}
-use Rattle.certificate.specs.Machine.{StandsFor, after_byte, after_bytes, beginning, is_good_at, next_place, walk}
+use Rattle.certificate.specs.Machine.{StandsFor, after_byte, after_bytes, beginning, is_good_at, next_place}
 use Rattle.certificate.specs.declared.cert.Cert.{Cert}
 use Rattle.certificate.specs.declared.place.Expected.{Expected}
 use Rattle.certificate.specs.declared.place.Expected.TheVariants.{Rest, VersionDigit, Number, Digits, Over, Nothing}
 use Rattle.certificate.specs.declared.place.Place.{Place}
 use Rattle.certificate.specs.declared.step.LineStep.{LineStep}
 use Rattle.certificate.specs.declared.step.LineStep.TheVariants as says
-use Rattle.certificate.proofs.ProgressFacts.{after_bytes-append, stands_next, place_of, nothing_stays, nothing_or_good, good_test, good_from_begins, begins_from_good, bad_stands, says_stands, newlines_push}
+use Rattle.certificate.proofs.ProgressFacts.{after_bytes-append, place_of, nothing_stays, nothing_or_good, good_test, good_from_begins, begins_from_good, bad_stands, says_stands, newlines_push}
 
 pub newlines_append : (xs ys : List ℕ) → newlines (xs ++ ys) ≡ newlines xs + newlines ys
 newlines_append xs ys = sum_by-append (λ (y : ℕ). cond (y == 10) 1 0) xs ys

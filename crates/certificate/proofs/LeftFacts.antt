@@ -1,5 +1,5 @@
 -- What may follow at each place: what leads over the end is the text of a certificate.
-use Rattle.std.proofs.Common.{◌≡◌, ℕ, suc, zero, ◌+◌, ◌-◌, ◌*◌, ◌/◌, ◌%◌, ◌^◌, ◌<◌, ◌≤◌, ◌==◌, not, ◌&&◌, nat_le, Option, Some, None, List, [], ◌∷◌, ◌++◌, length, get_or, drop, slice_index, codes, refl, sym, ap, subst, ◌∙◌, arith, append_assoc, decimal, All}
+use Rattle.std.proofs.Common.{◌≡◌, ℕ, suc, zero, ◌+◌, ◌-◌, ◌*◌, ◌/◌, ◌%◌, ◌<◌, ◌≤◌, ◌==◌, not, ◌&&◌, nat_le, Some, None, List, [], ◌∷◌, ◌++◌, length, get_or, drop, slice_index, codes, refl, sym, ap, subst, ◌∙◌, arith, append_assoc, decimal, All}
 use Rattle.std.specs.List.{flat_map}
 use Rattle.std.proofs.lemmas.List.Elements.{All-nil, All-cons}
 use Rattle.std.specs.Char.{is_ascii_digit}
@@ -8,11 +8,10 @@ use Rattle.std.proofs.lemmas.Fmt.{decimal_digit, decimal_step_wide}
 use Rattle.std.proofs.lemmas.Bool.{and_parts}
 use Rattle.lists.specs.Limits.{most_points, most_tasks}
 use Rattle.certificate.proofs.FieldFacts.{cases, eq_from_test, le_from_test, positive_from_test, digit_and, greatest_small}
-use Rattle.certificate.specs.Text.{PointLine, point_of, point_line, lines_of, point_text, points_text, head_of, entries_text, greatest_term, IsPoint, IsTerms, IsEntry, HasTermsOf, cert_format}
+use Rattle.certificate.specs.Text.{PointLine, point_of, point_line, point_text, points_text, head_of, entries_text, greatest_term, IsEntry, HasTermsOf, cert_format}
 use Rattle.certificate.specs.declared.cert.Version.{Version}
 use Rattle.certificate.specs.declared.cert.Version.TheVariants.{One, Two}
-use Rattle.certificate.specs.declared.cert.Terms.{Terms}
-use Rattle.certificate.proofs.PointFacts.{AreLines, are_lines, points_in, terms_in}
+use Rattle.certificate.proofs.PointFacts.{are_lines, points_in, terms_in}
 use Rattle.certificate.specs.FirstLines.{IsLineOf}
 use Rattle.poet_io.specs.Texts.{Parses}
 use Rattle.certificate.specs.declared.cert.Entry.{Entry}

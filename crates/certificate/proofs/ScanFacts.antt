@@ -1,12 +1,12 @@
 -- A point's line in front of the bytes, read at once.
-use Rattle.std.proofs.Common.{◌≢◌, ◌≡◌, ℕ, suc, zero, ◌+◌, ◌-◌, ◌/◌, ◌%◌, ◌^◌, ◌<◌, ◌≤◌, ◌==◌, Bool, false, cond, List, [], ◌∷◌, ◌++◌, Option, Some, None, length, get_or, take, drop, codes, decimal, refl, sym, ap, subst, ◌∙◌, arith, append_assoc, length-append}
+use Rattle.std.proofs.Common.{◌≢◌, ◌≡◌, ℕ, suc, zero, ◌+◌, ◌-◌, ◌%◌, ◌^◌, ◌<◌, ◌≤◌, ◌==◌, Bool, cond, List, [], ◌∷◌, ◌++◌, Option, Some, None, length, get_or, take, drop, codes, decimal, refl, sym, ap, subst, ◌∙◌, arith, append_assoc, length-append}
 use Rattle.std.proofs.lemmas.List.{append-nil, length-take-le, get_or-take, take_at, nil_from_length, take-append-drop, take_rest, drop_more}
 use Rattle.std.proofs.lemmas.List.Sums.{sum_by-cons}
 use Rattle.std.proofs.lemmas.Fmt.{decimal_by_steps_wide}
 use Rattle.std.specs.Str.Parse.{AllDigits, digits_value}
 use Rattle.poet_io.specs.Texts.{newlines}
 use Rattle.poet_io.proofs.DecimalFacts.{IsOneLine, one_line_append, digit_is_no_newline, canonical}
-use Rattle.certificate.specs.Text.{PointLine, point_line, terms_text, point_text, IsPoint, IsTerms}
+use Rattle.certificate.specs.Text.{PointLine, point_line, terms_text, point_text}
 use Rattle.certificate.specs.Steps.{point_step}
 use Rattle.certificate.specs.Progress.{Progress}
 use Rattle.certificate.specs.FirstLines.{IsFirstLine, IsLineOf, HasTerms, said_after}

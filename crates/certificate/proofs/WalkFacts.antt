@@ -8,7 +8,7 @@ use Rattle.std.proofs.lemmas.Bool.Decides.{nat_tests}
 use Rattle.lists.specs.Limits.{most_tasks}
 use Rattle.poet_io.proofs.DecimalFacts.{IsOneLine, one_line_append, decimal_one_line, digit_test, digit_is_no_newline}
 use Rattle.certificate.proofs.FieldFacts.{least_one, greatest_small, ender_small}
-use Rattle.certificate.specs.Text.{PointLine, point_line, point_of, lines_of, terms_text, point_text, points_text, entry_line, entries_text, head_of, text_of, terms_count, IsPoint, IsTerms, IsEntry, HasTermsOf, IsWithinGrammar}
+use Rattle.certificate.specs.Text.{PointLine, point_line, lines_of, point_text, points_text, entry_line, entries_text, head_of, text_of, IsPoint, IsTerms, IsEntry, HasTermsOf, IsWithinGrammar}
 use Rattle.certificate.specs.Steps.{point_step, points_steps, entries_steps, steps_of}
 use Rattle.certificate.specs.declared.cert.Version.{Version}
 use Rattle.certificate.specs.declared.cert.Version.TheVariants.{One, Two}
@@ -22,7 +22,7 @@ use Rattle.certificate.specs.Machine.{word_text, least, greatest, ender, at_plac
 use Rattle.certificate.specs.declared.place.Word.TheVariants as word
 use Rattle.certificate.specs.declared.place.Field.{Field}
 use Rattle.certificate.specs.declared.place.Field.TheVariants as field
-use Rattle.certificate.specs.declared.place.Expected.TheVariants.{Rest, VersionDigit, Number, Digits, Over}
+use Rattle.certificate.specs.declared.place.Expected.TheVariants.{Rest, Number, Digits, Over}
 use Rattle.certificate.specs.declared.place.Place.{Place}
 use Rattle.certificate.specs.declared.step.LineStep.{LineStep}
 use Rattle.certificate.specs.declared.step.LineStep.TheVariants as says

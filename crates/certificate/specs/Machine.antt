@@ -1,5 +1,5 @@
 -- Where a certificate's text stands after some bytes, and what the next byte does.
-use Rattle.std.specs.Prelude.{◌≡◌, ℕ, Option, Some, None, suc, zero, ◌+◌, ◌-◌, ◌*◌, ◌<◌, ◌≤◌, ◌==◌, Bool, true, false, not, ◌&&◌, if◌then◌else◌, nat_le, List, [], ◌∷◌, ◌++◌, length, slice_index, codes, decimal}
+use Rattle.std.specs.Prelude.{◌≡◌, ℕ, Some, None, suc, zero, ◌+◌, ◌-◌, ◌*◌, ◌<◌, ◌≤◌, ◌==◌, Bool, true, false, not, ◌&&◌, if◌then◌else◌, nat_le, List, [], ◌∷◌, ◌++◌, length, slice_index, codes, decimal}
 use Rattle.std.specs.Char.{is_ascii_digit}
 use Rattle.lists.specs.Limits.{greatest_number, most_tasks, most_points}
 use Rattle.certificate.specs.Progress.{Progress}

@@ -1,4 +1,4 @@
-use Rattle.std.proofs.Common.{◌≡◌, List, ◌∷◌, ◌++◌, [], sym, ap, ◌∙◌}
+use Rattle.std.proofs.Common.{List, ◌∷◌, ◌++◌, [], sym, ap, ◌∙◌}
 use Rattle.certificate.specs.Text.{point_line}
 use Rattle.certificate.specs.Parsing.{add_point}
 use Rattle.certificate.specs.declared.cert.Entry.{Entry}

@@ -1,7 +1,7 @@
 use Rattle.std.proofs.Common.{◌≡◌, ◌+◌, ◌-◌, ◌++◌, [], List, ℕ, length, take, drop, sym, ap, ◌∙◌, arith, length-drop}
 use Rattle.std.proofs.lemmas.List.{take_all, take_rest}
 use Rattle.certificate.specs.Parsing.{add_step}
-use Rattle.certificate.proofs.FeedFacts.{line_few, line_some, line_on}
+use Rattle.certificate.proofs.FeedFacts.{line_few, line_on}
 use Rattle.certificate.proofs.StepFacts.{so_far_next, found_all, add_step-quiet}
 use Rattle.certificate.proofs.ReadingFacts.{cert_of_text-reading, refused_all}
 use Rattle.certificate.proofs.reading.read_cert.Goals as goal

@@ -1,4 +1,4 @@
-use Rattle.certificate.proofs.FeedFacts.{stands_fed, bad_fed, says_fed}
+use Rattle.certificate.proofs.FeedFacts.{stands_fed, bad_fed}
 use Rattle.certificate.proofs.lines.Lines.feed_line.Goals as goal
 
 pub returns-in-Some-clause-stands : goal.returns-in-Some-clause-stands

@@ -1,4 +1,3 @@
-use Rattle.std.proofs.Common.{◌∙◌}
 use Rattle.certificate.proofs.ProgressFacts.{version_stands}
 use Rattle.certificate.proofs.lines.Lines.version.Goals as goal
 

@@ -1,5 +1,7 @@
 //! Certificates written by hand.
-use certificate::{Cert, Entry, LineStep, Lines, Point, Terms, Version, read_cert, write_cert};
+use certificate::{
+    Cert, Entry, LineStep, Lines, Point, Terms, Version, read_cert, text_len, write_cert,
+};
 use lists::Items;
 use poet_io::TextRefusal;
 use std::alloc::{AllocError, Global};
@@ -66,9 +68,15 @@ const REFUSED: [(&[u8], u64); 20] = [
     // The terms are missing.
     (b"poet-cert 2\ntasks 1\ntask 0 2 2 1\np 0 2\nend\n", 4),
     // Terms in the first version.
-    (b"poet-cert 1\ntasks 1\ntask 0 2 2 1\np 0 2 1 1 0 2\nend\n", 4),
+    (
+        b"poet-cert 1\ntasks 1\ntask 0 2 2 1\np 0 2 1 1 0 2\nend\n",
+        4,
+    ),
     // A term too many.
-    (b"poet-cert 2\ntasks 1\ntask 0 2 2 1\np 0 2 1 1 0 2 2\nend\n", 4),
+    (
+        b"poet-cert 2\ntasks 1\ntask 0 2 2 1\np 0 2 1 1 0 2 2\nend\n",
+        4,
+    ),
     // A term above 10^28.
     (
         b"poet-cert 2\ntasks 1\ntask 0 2 2 1\n\
@@ -205,11 +213,7 @@ fn both_steps(first: LineStep, second: LineStep) -> [LineStep; 6] {
 }
 
 /// Feeds a piece of a text line by line, and keeps what its lines say.
-fn feed_piece(
-    lines: &mut Lines,
-    piece: &[u8],
-    said: &mut Vec<LineStep>,
-) -> Result<(), AllocError> {
+fn feed_piece(lines: &mut Lines, piece: &[u8], said: &mut Vec<LineStep>) -> Result<(), AllocError> {
     let mut rest = piece;
     for _ in piece {
         let (len, step) = lines.feed_line(rest);
@@ -246,6 +250,7 @@ fn terms_are_read_and_written(rt: HostRuntime) -> Result<(), Fail> {
     let alloc = rt.alloc();
     for text in BOTH {
         let cert = read_cert(alloc, text)?;
+        assert_eq!(rt; text_len(&cert), text.len() as u64);
         assert_eq!(rt; write_cert(alloc, &cert)?.as_slice(), text);
     }
     let cert = read_cert(alloc, BOTH[1])?;
@@ -256,6 +261,9 @@ fn terms_are_read_and_written(rt: HostRuntime) -> Result<(), Fail> {
         others: 1,
         need: 2,
     };
-    assert_eq!(rt; cert.entries.as_slice()[1].terms.as_slice(), [terms].as_slice());
+    assert_eq!(rt;
+        cert.entries.as_slice()[1].terms.as_slice(),
+        [terms].as_slice()
+    );
     Ok(())
 }

@@ -16,6 +16,7 @@ use Rattle.preemption.specs.CutLaws.{Serves}
 use Rattle.preemption.specs.Kinds.{per_task_meaning}
 use Rattle.schedule_laws.specs.Bounded.{IsBounded}
 use Rattle.demand.specs.Demand.{own_of, others_of, blocking_of, need_of, window_need_of}
+use Rattle.certificate.specs.declared.cert.Version.TheVariants.{One}
 use Rattle.certificate.specs.declared.cert.Cert.{Cert}
 use Rattle.conditions.specs.declared.failed.Cond.TheVariants.{K2}
 use Rattle.conditions.specs.Conditions.{entry_at, of_task, task_failed_of, failed_of}
@@ -49,7 +50,7 @@ unfolding task_rule most_jitter most_point
 blocking_valid = valid_from_rules Fifo Whole (task_u ∷ task_v ∷ []) blocking_curves refl (omega arith) (omega arith) refl
 
 -- a bound below the jitter fails K2
-below_the_jitter : failed_of fp_meaning per_task_meaning all_supplied (late_sheet 3) false (record { entries = record { window = 2; bound = 2; points = [] } ∷ [] }) ≡ Some (of_task 0 K2)
+below_the_jitter : failed_of fp_meaning per_task_meaning all_supplied (late_sheet 3) false (record { version = One; entries = record { window = 2; bound = 2; points = []; terms = [] } ∷ [] }) ≡ Some (of_task 0 K2)
 unfolding failed_of task_failed_of
 below_the_jitter = refl
 

@@ -3,9 +3,11 @@ use Rattle.std.proofs.Common.{◌≡◌, ℕ, ◌<◌, ◌≤◌, ◌==◌, Bool
 use Rattle.std.specs.Char.{is_ascii_digit}
 use Rattle.std.proofs.lemmas.Bool.Decides.{nat_tests}
 use Rattle.std.proofs.lemmas.Bool.{and_parts}
-use Rattle.lists.specs.Limits.{greatest_number}
 use Rattle.poet_io.proofs.DecimalFacts.{digit_from_test}
+use Rattle.certificate.specs.Text.{greatest_term}
 use Rattle.certificate.specs.Machine.{least, greatest, ender}
+use Rattle.certificate.specs.declared.cert.Version.{Version}
+use Rattle.certificate.specs.declared.cert.Version.TheVariants.{One, Two}
 use Rattle.certificate.specs.declared.place.Field.{Field}
 use Rattle.certificate.specs.declared.place.Field.TheVariants as field
 
@@ -42,6 +44,10 @@ least_one field.Window = omega arith
 least_one (field.Bound w) = omega arith
 least_one field.Offset = omega arith
 least_one (field.Finish a) = omega arith
+least_one (field.Blocking p) = omega arith
+least_one (field.Own p b) = omega arith
+least_one (field.Others p b o) = omega arith
+least_one (field.Need p b o h) = omega arith
 
 pub nine_fits : (f : Field) → 9 ≤ greatest f
 nine_fits field.Tasks = omega arith
@@ -50,19 +56,32 @@ nine_fits field.Window = omega arith
 nine_fits (field.Bound w) = omega arith
 nine_fits field.Offset = omega arith
 nine_fits (field.Finish a) = omega arith
+nine_fits (field.Blocking p) = omega arith
+nine_fits (field.Own p b) = omega arith
+nine_fits (field.Others p b o) = omega arith
+nine_fits (field.Need p b o h) = omega arith
 
-pub greatest_small : (f : Field) → greatest f ≤ greatest_number
+pub greatest_small : (f : Field) → greatest f ≤ greatest_term
 greatest_small field.Tasks = omega arith
 greatest_small (field.Count w r) = omega arith
 greatest_small field.Window = omega arith
 greatest_small (field.Bound w) = omega arith
 greatest_small field.Offset = omega arith
 greatest_small (field.Finish a) = omega arith
+greatest_small (field.Blocking p) = omega arith
+greatest_small (field.Own p b) = omega arith
+greatest_small (field.Others p b o) = omega arith
+greatest_small (field.Need p b o h) = omega arith
 
-pub ender_small : (f : Field) → ender f ≤ 32
-ender_small field.Tasks = omega arith
-ender_small (field.Count w r) = omega arith
-ender_small field.Window = omega arith
-ender_small (field.Bound w) = omega arith
-ender_small field.Offset = omega arith
-ender_small (field.Finish a) = omega arith
+pub ender_small : (v : Version) (f : Field) → ender v f ≤ 32
+ender_small v field.Tasks = omega arith
+ender_small v (field.Count w r) = omega arith
+ender_small v field.Window = omega arith
+ender_small v (field.Bound w) = omega arith
+ender_small v field.Offset = omega arith
+ender_small One (field.Finish a) = omega arith
+ender_small Two (field.Finish a) = omega arith
+ender_small v (field.Blocking p) = omega arith
+ender_small v (field.Own p b) = omega arith
+ender_small v (field.Others p b o) = omega arith
+ender_small v (field.Need p b o h) = omega arith

@@ -1,7 +1,11 @@
 pub mod FieldFacts
+pub mod PointFacts
 pub mod WalkFacts
 pub mod LeftFacts
 pub mod LineFacts
 pub mod ProgressFacts
+pub mod FeedFacts
+pub mod ScanFacts
 pub mod StepFacts
 pub mod ReadingFacts
+pub mod WritingFacts

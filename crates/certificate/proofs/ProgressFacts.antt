@@ -10,14 +10,16 @@ use Rattle.certificate.specs.Text.{text_of, cert_format}
 use Rattle.certificate.specs.Steps.{steps_of}
 use Rattle.certificate.specs.Progress.{Progress}
 use Rattle.certificate.specs.declared.cert.Cert.{Cert}
+use Rattle.certificate.specs.declared.cert.Version.{Version}
+use Rattle.certificate.specs.declared.cert.Version.TheVariants.{One, Two}
 use Rattle.certificate.proofs.FieldFacts.{eq_from_test}
-use Rattle.certificate.specs.Machine.{word_text, after_word, least, greatest, ender, at_place, after_point, after_number, StandsFor, after_byte, after_bytes, beginning, is_good_at, is_over_at, IsProgress, word_step, next_place, start, IsPlace, bad, walk}
+use Rattle.certificate.specs.Machine.{word_text, after_word, least, greatest, ender, at_place, after_point, after_end, after_number, digit_of, version_digit, StandsFor, after_byte, after_bytes, beginning, is_good_at, is_over_at, IsProgress, word_step, next_place, start, IsPlace, bad, walk}
 use Rattle.certificate.specs.declared.place.Word.{Word}
 use Rattle.certificate.specs.declared.place.Word.TheVariants as word
 use Rattle.certificate.specs.declared.place.Field.{Field}
 use Rattle.certificate.specs.declared.place.Field.TheVariants as field
 use Rattle.certificate.specs.declared.place.Expected.{Expected}
-use Rattle.certificate.specs.declared.place.Expected.TheVariants.{Rest, Number, Digits, Over, Nothing}
+use Rattle.certificate.specs.declared.place.Expected.TheVariants.{Rest, VersionDigit, Number, Digits, Over, Nothing}
 use Rattle.certificate.specs.declared.place.Place.{Place}
 use Rattle.std.proofs.lemmas.List.{same_from_push, nil_from_length, get_or_at, length_push}
 use Rattle.std.proofs.lemmas.List.Sums.{sum_by_push}
@@ -30,7 +32,7 @@ use Rattle.certificate.proofs.LineFacts.{lines_next}
 pub start_right : IsProgress start 1
 start_right = record { right = record { few = omega arith; points = omega arith; right = (omega arith, tt) }; small = omega arith }
 
-after_bytes-append : (l : Progress) (xs ys : List ℕ) → after_bytes l (xs ++ ys) ≡ after_bytes (after_bytes l xs) ys
+pub after_bytes-append : (l : Progress) (xs ys : List ℕ) → after_bytes l (xs ++ ys) ≡ after_bytes (after_bytes l xs) ys
 after_bytes-append l [] ys = refl
 after_bytes-append l (x ∷ xs) ys = after_bytes-append (after_byte l x) xs ys
 
@@ -38,23 +40,23 @@ pub stands_next : (l : Progress) (b : List ℕ) (x : ℕ) → StandsFor l b → 
 stands_next l b x h = record { is = ap (λ (v : Progress). after_byte v x) h.is ∙ sym (after_bytes-append beginning b (x ∷ [])) }
 
 -- what is said so far does not matter for the place
-place_of : (ss : List LineStep) (l : Progress) (b : List ℕ) → (after_bytes l b).place ≡ (walk ss l.place b).1
+pub place_of : (ss : List LineStep) (l : Progress) (b : List ℕ) → (after_bytes l b).place ≡ (walk ss l.place b).1
 place_of ss l [] = refl
 place_of ss l (x ∷ b) = place_of (cond (x == 10) (ss ++ (next_place l.place x).1 ∷ []) ss) (after_byte l x) b
 
-lines_all : (l : Progress) (b : List ℕ) → IsProgress l.place l.line → IsProgress (after_bytes l b).place (after_bytes l b).line
+pub lines_all : (l : Progress) (b : List ℕ) → IsProgress l.place l.line → IsProgress (after_bytes l b).place (after_bytes l b).line
 lines_all l [] h = h
 lines_all l (x ∷ b) h = lines_all (after_byte l x) b (lines_next l.place x l.line h)
 
 right_all : (b : List ℕ) → IsPlace (after_bytes beginning b).place
 right_all b = (lines_all beginning b start_right).right
 
-nothing_next : (e : Expected) (i m k x : ℕ) → e ≡ Nothing → (next_place (at_place e i m k) x).0.expected ≡ Nothing
-nothing_next e i m k x h = rw h refl
+nothing_next : (v : Version) (e : Expected) (i m k x : ℕ) → e ≡ Nothing → (next_place (at_place v e i m k) x).0.expected ≡ Nothing
+nothing_next v e i m k x h = rw h refl
 
-nothing_stays : (ss : List LineStep) (p : Place) (t : List ℕ) → p.expected ≡ Nothing → (walk ss p t).1.expected ≡ Nothing
+pub nothing_stays : (ss : List LineStep) (p : Place) (t : List ℕ) → p.expected ≡ Nothing → (walk ss p t).1.expected ≡ Nothing
 nothing_stays ss p [] h = h
-nothing_stays ss p (x ∷ t) h = nothing_stays (cond (x == 10) (ss ++ (next_place p x).1 ∷ []) ss) (next_place p x).0 t (nothing_next p.expected p.task p.after p.points x h)
+nothing_stays ss p (x ∷ t) h = nothing_stays (cond (x == 10) (ss ++ (next_place p x).1 ∷ []) ss) (next_place p x).0 t (nothing_next p.version p.expected p.task p.after p.points x h)
 
 left_all : (l : Progress) (b t : List ℕ) → IsProgress l.place l.line → Left (after_bytes l b).place t → Left l.place (b ++ t)
 left_all l [] t right h = h
@@ -78,12 +80,12 @@ begins_from_good b good =
     record { value = t.0; more = s.text; parses = t.1 }
 
 -- and they end so exactly where it is over
-left_over : (e : Expected) (i m k : ℕ) → e ≡ Over → LeftAt e i m k []
-left_over e i m k h = rw h refl
+left_over : (v : Version) (e : Expected) (i m k : ℕ) → e ≡ Over → LeftAt v e i m k []
+left_over v e i m k h = rw h refl
 
 pub parses_from_over : (b : List ℕ) → (after_bytes beginning b).place.expected ≡ Over → (c : Cert) × Parses cert_format b c
 parses_from_over b over =
-    let here : Left (after_bytes beginning b).place [] = (let p = (after_bytes beginning b).place in left_over p.expected p.task p.after p.points over) in
+    let here : Left (after_bytes beginning b).place [] = (let p = (after_bytes beginning b).place in left_over p.version p.expected p.task p.after p.points over) in
     rw append-nil at (text_of_left (b ++ []) (left_all beginning b [] start_right here))
 
 pub over_from_parses : (b : List ℕ) (c : Cert) → Parses cert_format b c → (after_bytes beginning b).place.expected ≡ Over
@@ -116,16 +118,25 @@ said_count done (x ∷ b) ss p h =
       | inr not_so ↦ first false not_so ∙ said_count (done ++ x ∷ []) b ss q (omega (arith, newlines_push done x, ap (λ (w : Bool). cond {A = ℕ} w 1 0) not_so)) ∙ ap newlines (append_assoc done (x ∷ []) b)
     ]
 
-quiet_number : (f : Field) (i m k v : ℕ) → (ender f == 10) ≡ false → (after_number i m k f v).1 ≡ says.More
-quiet_number field.Tasks i m k v h = absurd (cc)
-quiet_number field.Window i m k v h = refl
-quiet_number (field.Bound w) i m k v h = refl
-quiet_number (field.Count w r) i m k v h = absurd (cc)
-quiet_number field.Offset i m k v h = refl
-quiet_number (field.Finish a) i m k v h = absurd (cc)
+quiet_end : (v : Version) (i m k a x : ℕ) → (ender v (field.Finish a) == 10) ≡ false → (after_end v i m k a x).1 ≡ says.More
+quiet_end One i m k a x h = absurd (cc)
+quiet_end Two i m k a x h = refl
+
+quiet_number : (v : Version) (f : Field) (i m k n : ℕ) → (ender v f == 10) ≡ false → (after_number v i m k f n).1 ≡ says.More
+quiet_number v field.Tasks i m k n h = absurd (cc)
+quiet_number v field.Window i m k n h = refl
+quiet_number v (field.Bound w) i m k n h = refl
+quiet_number v (field.Count w r) i m k n h = absurd (cc)
+quiet_number v field.Offset i m k n h = refl
+quiet_number v (field.Finish a) i m k n h = quiet_end v i m k a n h
+quiet_number v (field.Blocking p) i m k n h = refl
+quiet_number v (field.Own p b) i m k n h = refl
+quiet_number v (field.Others p b o) i m k n h = refl
+quiet_number v (field.Need p b o r) i m k n h = absurd (cc)
 
 quiet_word : (w : Word) (i at x : ℕ) → (x == 10) ≡ false → slice_index (word_text w i) at ≡ x → at + 1 ≡ length (word_text w i) → word_step w ≡ says.More
 quiet_word word.Head i at x not_so here last = refl
+quiet_word word.Tasks i at x not_so here last = refl
 quiet_word word.Task i at x not_so here last = refl
 quiet_word word.Point i at x not_so here last = refl
 quiet_word word.End i at x not_so here last =
@@ -133,34 +144,44 @@ quiet_word word.End i at x not_so here last =
     let ten : 10 ≡ x = subst (λ (w : ℕ). slice_index (codes "end\n") w ≡ x) three here in
     absurd (grind (arith, nat_tests))
 
-quiet_at : (e : Expected) (i m k x : ℕ) → (x == 10) ≡ false → ((next_place (at_place e i m k) x).0.expected ≡ Nothing → ⊥) → (next_place (at_place e i m k) x).1 ≡ says.More
-quiet_at (Rest w at) i m k x not_so = elim (cases_Bool (slice_index (word_text w i) at == x)) [
+quiet_version : (x : ℕ) → ((version_digit x).0.expected ≡ Nothing → ⊥) → (version_digit x).1 ≡ says.More
+quiet_version x = elim (cases_Bool (x == digit_of One)) [
+  | inl one ↦ rw one (λ good. refl)
+  | inr one ↦ elim (cases_Bool (x == digit_of Two)) [
+    | inl two ↦ rw (one, two) (λ good. refl)
+    | inr two ↦ rw (one, two) (λ good. absurd (good refl))
+  ]
+]
+
+quiet_at : (v : Version) (e : Expected) (i m k x : ℕ) → (x == 10) ≡ false → ((next_place (at_place v e i m k) x).0.expected ≡ Nothing → ⊥) → (next_place (at_place v e i m k) x).1 ≡ says.More
+quiet_at v (Rest w at) i m k x not_so = elim (cases_Bool (slice_index (word_text w i) at == x)) [
   | inl here ↦ elim (cases_Bool (at + 1 == length (word_text w i))) [
     | inl last ↦ rw (here, last) (λ good. quiet_word w i at x not_so (eq_from_test (slice_index (word_text w i) at) x here) (eq_from_test (at + 1) (length (word_text w i)) last))
     | inr last ↦ rw (here, last) (λ good. refl)
   ]
   | inr here ↦ rw here (λ good. absurd (good refl))
 ]
-quiet_at (Number f) i m k x not_so = elim (cases_Bool (is_ascii_digit x && nat_le (least f) (x - 48))) [
+quiet_at v VersionDigit i m k x not_so = quiet_version x
+quiet_at v (Number f) i m k x not_so = elim (cases_Bool (is_ascii_digit x && nat_le (least f) (x - 48))) [
   | inl test ↦ rw test (λ good. refl)
   | inr test ↦ rw test (λ good. absurd (good refl))
 ]
-quiet_at (Digits f v) i m k x not_so = elim (cases_Bool (x == ender f)) [
-  | inl end ↦ rw end (λ good. quiet_number f i m k v (rw (eq_from_test x (ender f) end) at not_so))
-  | inr end ↦ elim (cases_Bool (is_ascii_digit x && (not (v == 0) && nat_le (v * 10 + (x - 48)) (greatest f)))) [
+quiet_at v (Digits f n) i m k x not_so = elim (cases_Bool (x == ender v f)) [
+  | inl end ↦ rw end (λ good. quiet_number v f i m k n (rw (eq_from_test x (ender v f) end) at not_so))
+  | inr end ↦ elim (cases_Bool (is_ascii_digit x && (not (n == 0) && nat_le (n * 10 + (x - 48)) (greatest f)))) [
     | inl test ↦ rw (end, test) (λ good. refl)
     | inr test ↦ rw (end, test) (λ good. absurd (good refl))
   ]
 ]
-quiet_at Over i m k x not_so = λ good. absurd (good refl)
-quiet_at Nothing i m k x not_so = λ good. absurd (good refl)
+quiet_at v Over i m k x not_so = λ good. absurd (good refl)
+quiet_at v Nothing i m k x not_so = λ good. absurd (good refl)
 
 pub says_is : (b more : List ℕ) (x : ℕ) (c : Cert) → Parses cert_format (b ++ x ∷ more) c →
     (next_place (after_bytes beginning b).place x).1 ≡ cond (x == 10) (slice_index_or (steps_of c) (newlines b) says.More) says.More
 says_is b more x c h =
     let r = walk [] start b in
     let place : (after_bytes beginning b).place ≡ r.1 = place_of [] beginning b in
-    let all : walk r.0 r.1 (x ∷ more) ≡ (steps_of c, at_place Over 0 0 0) = sym (walk-append [] start b (x ∷ more)) ∙ ap (λ (t : List ℕ). walk [] start t) h.text ∙ text_walk c h.within in
+    let all : walk r.0 r.1 (x ∷ more) ≡ (steps_of c, at_place c.version Over 0 0 0) = sym (walk-append [] start b (x ∷ more)) ∙ ap (λ (t : List ℕ). walk [] start t) h.text ∙ text_walk c h.within in
     let count : length r.0 ≡ newlines b = said_count [] b [] start refl in
     let s = (next_place r.1 x).1 in
     let q = (next_place r.1 x).0 in
@@ -174,7 +195,7 @@ says_is b more x c h =
           let others = (walk [] q more).0 in
           let front : steps_of c ≡ r.0 ++ s ∷ others = sym said ∙ said_front (r.0 ++ s ∷ []) q more ∙ append_assoc r.0 (s ∷ []) others in
           rw is_ten (sym (ap (λ (l : List LineStep). get_or l (newlines b) says.More) front ∙ get_or_at r.0 s others says.More (newlines b) count))
-      | inr not_so ↦ rw not_so (quiet_at r.1.expected r.1.task r.1.after r.1.points x not_so good)
+      | inr not_so ↦ rw not_so (quiet_at r.1.version r.1.expected r.1.task r.1.after r.1.points x not_so good)
     ])
 
 -- Bad is said where the place is no good
@@ -188,49 +209,69 @@ tells_good p s a b = record { to = λ h. absurd (a h); from = λ h. absurd (b h)
 tells_bad : Tells bad
 tells_bad = record { to = λ h. refl; from = λ h. refl }
 
-point_good : (i m k : ℕ) → (after_point i m k).expected ≡ Nothing → ⊥
-point_good i zero zero h = cc
-point_good i (suc m) zero h = cc
-point_good i m (suc k) h = cc
+pub point_good : (v : Version) (i m k : ℕ) → (after_point v i m k).expected ≡ Nothing → ⊥
+point_good v i zero zero h = cc
+point_good v i (suc m) zero h = cc
+point_good v i m (suc k) h = cc
 
-tells_number : (f : Field) (i m k v : ℕ) → Tells (after_number i m k f v)
-tells_number field.Tasks i m k v = tells_good _ _ (λ h. cc) (λ h. cc)
-tells_number field.Window i m k v = tells_good _ _ (λ h. cc) (λ h. cc)
-tells_number (field.Bound w) i m k v = tells_good _ _ (λ h. cc) (λ h. cc)
-tells_number (field.Count w r) i m k v = tells_good _ _ (λ h. cc) (λ h. cc)
-tells_number field.Offset i m k v = tells_good _ _ (λ h. cc) (λ h. cc)
-tells_number (field.Finish a) i m k v = tells_good _ _ (λ h. cc) (point_good i m (k - 1))
+tells_end : (v : Version) (i m k a x : ℕ) → Tells (after_end v i m k a x)
+tells_end One i m k a x = tells_good _ _ (λ h. cc) (point_good One i m (k - 1))
+tells_end Two i m k a x = tells_good _ _ (λ h. cc) (λ h. cc)
 
-tells_word : (w : Word) (i m k : ℕ) → Tells (at_place (after_word w) i m k, word_step w)
-tells_word word.Head i m k = tells_good _ _ (λ h. cc) (λ h. cc)
-tells_word word.Task i m k = tells_good _ _ (λ h. cc) (λ h. cc)
-tells_word word.Point i m k = tells_good _ _ (λ h. cc) (λ h. cc)
-tells_word word.End i m k = tells_good _ _ (λ h. cc) (λ h. cc)
+tells_number : (v : Version) (f : Field) (i m k n : ℕ) → Tells (after_number v i m k f n)
+tells_number v field.Tasks i m k n = tells_good _ _ (λ h. cc) (λ h. cc)
+tells_number v field.Window i m k n = tells_good _ _ (λ h. cc) (λ h. cc)
+tells_number v (field.Bound w) i m k n = tells_good _ _ (λ h. cc) (λ h. cc)
+tells_number v (field.Count w r) i m k n = tells_good _ _ (λ h. cc) (λ h. cc)
+tells_number v field.Offset i m k n = tells_good _ _ (λ h. cc) (λ h. cc)
+tells_number v (field.Finish a) i m k n = tells_end v i m k a n
+tells_number v (field.Blocking p) i m k n = tells_good _ _ (λ h. cc) (λ h. cc)
+tells_number v (field.Own p b) i m k n = tells_good _ _ (λ h. cc) (λ h. cc)
+tells_number v (field.Others p b o) i m k n = tells_good _ _ (λ h. cc) (λ h. cc)
+tells_number v (field.Need p b o r) i m k n = tells_good _ _ (λ h. cc) (point_good v i m (k - 1))
 
-tells_at : (e : Expected) (i m k x : ℕ) → Tells (next_place (at_place e i m k) x)
-tells_at (Rest w at) i m k x = elim (cases_Bool (slice_index (word_text w i) at == x)) [
+tells_word : (v : Version) (w : Word) (i m k : ℕ) → Tells (at_place v (after_word w) i m k, word_step w)
+tells_word v word.Head i m k = tells_good _ _ (λ h. cc) (λ h. cc)
+tells_word v word.Tasks i m k = tells_good _ _ (λ h. cc) (λ h. cc)
+tells_word v word.Task i m k = tells_good _ _ (λ h. cc) (λ h. cc)
+tells_word v word.Point i m k = tells_good _ _ (λ h. cc) (λ h. cc)
+tells_word v word.End i m k = tells_good _ _ (λ h. cc) (λ h. cc)
+
+tells_version : (x : ℕ) → Tells (version_digit x)
+tells_version x = elim (cases_Bool (x == digit_of One)) [
+  | inl one ↦ rw one (tells_good _ _ (λ h. cc) (λ h. cc))
+  | inr one ↦ elim (cases_Bool (x == digit_of Two)) [
+    | inl two ↦ rw (one, two) (tells_good _ _ (λ h. cc) (λ h. cc))
+    | inr two ↦ rw (one, two) tells_bad
+  ]
+]
+
+tells_at : (v : Version) (e : Expected) (i m k x : ℕ) → Tells (next_place (at_place v e i m k) x)
+tells_at v (Rest w at) i m k x = elim (cases_Bool (slice_index (word_text w i) at == x)) [
   | inl here ↦ elim (cases_Bool (at + 1 == length (word_text w i))) [
-    | inl last ↦ rw (here, last) (tells_word w i m k)
+    | inl last ↦ rw (here, last) (tells_word v w i m k)
     | inr last ↦ rw (here, last) (tells_good _ _ (λ h. cc) (λ h. cc))
   ]
   | inr here ↦ rw here tells_bad
 ]
-tells_at (Number f) i m k x = elim (cases_Bool (is_ascii_digit x && nat_le (least f) (x - 48))) [
+tells_at v VersionDigit i m k x = tells_version x
+tells_at v (Number f) i m k x = elim (cases_Bool (is_ascii_digit x && nat_le (least f) (x - 48))) [
   | inl test ↦ rw test (tells_good _ _ (λ h. cc) (λ h. cc))
   | inr test ↦ rw test tells_bad
 ]
-tells_at (Digits f v) i m k x = elim (cases_Bool (x == ender f)) [
-  | inl end ↦ rw end (tells_number f i m k v)
-  | inr end ↦ elim (cases_Bool (is_ascii_digit x && (not (v == 0) && nat_le (v * 10 + (x - 48)) (greatest f)))) [
+tells_at v (Digits f n) i m k x = elim (cases_Bool (x == ender v f)) [
+  | inl end ↦ rw end (tells_number v f i m k n)
+  | inr end ↦ elim (cases_Bool (is_ascii_digit x && (not (n == 0) && nat_le (n * 10 + (x - 48)) (greatest f)))) [
     | inl test ↦ rw (end, test) (tells_good _ _ (λ h. cc) (λ h. cc))
     | inr test ↦ rw (end, test) tells_bad
   ]
 ]
-tells_at Over i m k x = tells_bad
-tells_at Nothing i m k x = tells_bad
+tells_at v Over i m k x = tells_bad
+tells_at v Nothing i m k x = tells_bad
 
-nothing_or_good : (e : Expected) → (e ≡ Nothing) ⊎ (e ≡ Nothing → ⊥)
+pub nothing_or_good : (e : Expected) → (e ≡ Nothing) ⊎ (e ≡ Nothing → ⊥)
 nothing_or_good (Rest w at) = inr (λ h. cc)
+nothing_or_good VersionDigit = inr (λ h. cc)
 nothing_or_good (Number f) = inr (λ h. cc)
 nothing_or_good (Digits f v) = inr (λ h. cc)
 nothing_or_good Over = inr (λ h. cc)
@@ -239,7 +280,7 @@ nothing_or_good Nothing = inl refl
 pub bad_is : (b : List ℕ) (x : ℕ) → ((next_place (after_bytes beginning b).place x).1 ≡ says.Bad) ↔ (BeginsText cert_format (b ++ x ∷ []) → ⊥)
 bad_is b x =
     let p = (after_bytes beginning b).place in
-    let tells = tells_at p.expected p.task p.after p.points x in
+    let tells = tells_at p.version p.expected p.task p.after p.points x in
     let same : (after_bytes beginning (b ++ x ∷ [])).place ≡ (next_place p x).0 = ap (λ (l : Progress). l.place) (after_bytes-append beginning b (x ∷ [])) in (
       λ h begins. good_from_begins (b ++ x ∷ []) begins (ap (λ (q : Place). q.expected) same ∙ tells.to h),
       λ h. elim (nothing_or_good (next_place p x).0.expected) [
@@ -249,8 +290,9 @@ bad_is b x =
     )
 
 -- the line
-good_test : (e : Expected) → (e ≡ Nothing → ⊥) → is_good_at e ≡ true
+pub good_test : (e : Expected) → (e ≡ Nothing → ⊥) → is_good_at e ≡ true
 good_test (Rest w at) h = refl
+good_test VersionDigit h = refl
 good_test (Number f) h = refl
 good_test (Digits f v) h = refl
 good_test Over h = refl
@@ -327,6 +369,7 @@ says_stands l b more x c h parses = ap (λ (v : Progress). (next_place v.place x
 
 pub over_test : (e : Expected) → is_over_at e ≡ true → e ≡ Over
 over_test (Rest w at) h = absurd (cc)
+over_test VersionDigit h = absurd (cc)
 over_test (Number f) h = absurd (cc)
 over_test (Digits f v) h = absurd (cc)
 over_test Over h = refl
@@ -340,3 +383,10 @@ over_stands l b h = (
 
 pub line_stands : (l : Progress) (b : List ℕ) → StandsFor l b → IsRefusedLine cert_format b l.line
 line_stands l b h = subst (IsRefusedLine cert_format b) (ap (λ (v : Progress). v.line) (sym h.is)) (line_is b)
+
+-- the version of the certificate whose text was read
+pub version_is : (b : List ℕ) (c : Cert) → Parses cert_format b c → (after_bytes beginning b).place.version ≡ c.version
+version_is b c h = ap (λ (p : Place). p.version) (place_of [] beginning b) ∙ ap (λ (t : List ℕ). (walk [] start t).1.version) h.text ∙ ap (λ (r : List LineStep × Place). r.1.version) (text_walk c h.within)
+
+pub version_stands : (l : Progress) (b : List ℕ) (c : Cert) → StandsFor l b → Parses cert_format b c → l.place.version ≡ c.version
+version_stands l b c h parses = ap (λ (v : Progress). v.place.version) h.is ∙ version_is b c parses

@@ -10,17 +10,21 @@ use Rattle.certificate.specs.Parsing.{cert_of_text, entries_of}
 use Rattle.certificate.specs.Machine.{after_bytes, beginning, is_over_at, start, walk}
 use Rattle.certificate.specs.declared.cert.Entry.{Entry}
 use Rattle.certificate.specs.declared.cert.Cert.{Cert}
+use Rattle.certificate.specs.declared.cert.Version.{Version}
 use Rattle.certificate.specs.declared.step.LineStep.{LineStep}
 use Rattle.certificate.proofs.FieldFacts.{cases}
 use Rattle.certificate.proofs.WalkFacts.{text_walk}
-use Rattle.certificate.proofs.ProgressFacts.{parses_from_over, over_from_parses, over_test, line_is}
+use Rattle.certificate.proofs.ProgressFacts.{parses_from_over, over_from_parses, over_test, line_is, version_is}
 use Rattle.certificate.proofs.StepFacts.{entries_of-steps, one_parse}
 
 -- the entries that the lines make are those of the certificate whose text the bytes are
-parsed : (b : List ℕ) (c : Cert) → Parses cert_format b c → Parses cert_format b (record { entries = entries_of (walk [] start b).0 })
+parsed : (b : List ℕ) (c : Cert) → Parses cert_format b c → Parses cert_format b (record { version = (after_bytes beginning b).place.version; entries = entries_of (walk [] start b).0 })
 parsed b c h =
     let steps : (walk [] start b).0 ≡ steps_of c = ap (λ (t : List ℕ). (walk [] start t).0) h.text ∙ ap (λ (r : List LineStep × _). r.0) (text_walk c h.within) in
-    subst (λ (es : List Entry). Parses cert_format b (record { entries = es })) (sym (ap entries_of steps ∙ entries_of-steps c)) h
+    let entries : c.entries ≡ entries_of (walk [] start b).0 = sym (ap entries_of steps ∙ entries_of-steps c h.within) in
+    let version : c.version ≡ (after_bytes beginning b).place.version = sym (version_is b c h) in
+    subst (λ (v : Version). Parses cert_format b (record { version = v; entries = entries_of (walk [] start b).0 })) version
+    (subst (λ (es : List Entry). Parses cert_format b (record { version = c.version; entries = es })) entries h)
 
 pub reading_exists : (b : List ℕ) → IsReading cert_format b (cert_of_text b)
 unfolding cert_of_text

@@ -2,37 +2,36 @@
 
 ghost use Rattle.std.specs.Prelude.{◌≡◌, ◌≢◌, OnOk, IfOk, IfErr};
 ghost use Rattle.poet_io.specs.Texts.{Parses, IsReading, AnswersReading};
-ghost use Rattle.certificate.specs.Text.{cert_format};
-ghost use Rattle.certificate.specs.Parsing.{add_point, add_step, cert_of_text};
+ghost use Rattle.certificate.specs.Text.{cert_format, point_line};
+ghost use Rattle.certificate.specs.Parsing.{with_point, add_point, add_step, cert_of_text};
 
-use crate::cert::{Cert, Entry, Point};
+use crate::cert::{Cert, Entry, Point, Terms};
 use crate::lines::Lines;
 use crate::step::LineStep;
 use lists::Items;
 use poet_io::TextRefusal;
 use std::alloc::{AllocError, Global};
 
-/// Appends a point to the last entry. `Items` gives its `Vec` back, so no point is copied.
-fn add_point(entries: &mut Vec<Entry>, point: Point) -> Result<(), AllocError>
-    ensures { OnOk result (entries.new.items ≡ add_point entries.old.items point) }
+/// Appends a point to an entry, with its terms where it has some.
+fn push_point(entry: &mut Entry, point: Point, terms: Option<Terms>) -> Result<(), AllocError>
+    ensures { OnOk result (entry.new ≡ with_point entry.old (point_line point terms)) }
 {
-    let Some(
-        Entry {
-            window,
-            bound,
-            points,
-        },
-    ) = entries.pop()
-    else {
+    entry.points.push(point)?;
+    if let Some(terms) = terms {
+        entry.terms.push(terms)?;
+    }
+    Ok(())
+}
+
+/// Appends a point to the last entry. No point is copied.
+fn add_point(entries: &mut Vec<Entry>, point: Point, terms: Option<Terms>) -> Result<(), AllocError>
+    ensures { OnOk result (entries.new.items ≡ add_point entries.old.items (point_line point terms)) }
+{
+    let Some(mut entry) = entries.pop() else {
         return Ok(());
     };
-    let mut points = points.into_vec();
-    points.push(point)?;
-    entries.push(Entry {
-        window,
-        bound,
-        points: Items::new(points),
-    })?;
+    push_point(&mut entry, point, terms)?;
+    entries.push(entry)?;
     Ok(())
 }
 
@@ -46,10 +45,11 @@ fn add_step(alloc: Global, entries: &mut Vec<Entry>, step: LineStep) -> Result<(
                 window,
                 bound,
                 points: Items::new(Vec::new(alloc)),
+                terms: Items::new(Vec::new(alloc)),
             })?;
             Ok(())
         }
-        LineStep::Point { offset, end } => add_point(entries, Point { offset, end }),
+        LineStep::Point { offset, end, terms } => add_point(entries, Point { offset, end }, terms),
         _ => Ok(()),
     }
 }
@@ -66,12 +66,15 @@ pub fn read_cert(alloc: Global, bytes: &[u8]) -> Result<Cert, TextRefusal>
 {
     let mut lines = Lines::new();
     let mut entries = Vec::new(alloc);
-    for byte in bytes {
-        let step = lines.feed(*byte);
+    let mut at = 0;
+    while at < bytes.len() {
+        let (len, step) = lines.feed_line(&bytes[at..]);
         add_step(alloc, &mut entries, step)?;
+        at += len;
     }
     if lines.is_over() {
         Ok(Cert {
+            version: lines.version(),
             entries: Items::new(entries),
         })
     } else {

@@ -1,5 +1,7 @@
 //! What a byte of a certificate's text says.
 
+use crate::cert::Terms;
+
 /// What the line says that ends at a byte.
 #[derive(Clone, Copy, Debug, PartialEq, Eq)]
 pub enum LineStep {
@@ -14,10 +16,11 @@ pub enum LineStep {
         bound: u64,
         count: u32,
     },
-    /// A point of the entry before, in ticks.
+    /// A point of the entry before, in ticks, and in the second version its terms.
     Point {
         offset: u64,
         end: u64,
+        terms: Option<Terms>,
     },
     /// The certificate is over.
     End,

@@ -6,6 +6,7 @@ use Rattle.policy.specs.Policies.{fp_meaning, fifo_meaning}
 use Rattle.preemption.specs.Kinds.{per_task_meaning}
 use Rattle.demand.specs.Demand.{own_of, others_of, blocking_of, need_of, window_need_of}
 use Rattle.demand.proofs.Worked.{jitter, jitter_points, jitter_blocking}
+use Rattle.certificate.specs.declared.cert.Version.TheVariants.{One}
 use Rattle.certificate.specs.declared.cert.Cert.{Cert}
 use Rattle.certificate.specs.declared.cert.Entry.{Entry}
 use Rattle.certificate.specs.declared.cert.Point.{Point}
@@ -14,10 +15,10 @@ use Rattle.conditions.specs.declared.failed.Cond.TheVariants.{K2, K6, K8}
 use Rattle.conditions.specs.Conditions.{no_entry, of_task, of_point, task_failed_of, failed_of}
 
 abbrev pub entry : ℕ → ℕ → List Point → Entry
-entry window bound points = record { window = window; bound = bound; points = points }
+entry window bound points = record { window = window; bound = bound; points = points; terms = [] }
 
 abbrev pub cert : List Entry → Cert
-cert entries = record { entries = entries }
+cert entries = record { version = One; entries = entries }
 
 -- a jitter of 3: the bound counts from the arrival
 jitter_meets : failed_of fp_meaning per_task_meaning (λ d. d) jitter false (cert (entry 2 5 (point_of 0 2 ∷ []) ∷ [])) ≡ None

@@ -16,7 +16,7 @@ use Rattle.conditions.specs.declared.failed.Failed.{Failed}
 
 -- what stands past the last entry
 unfoldable pub no_entry : Entry
-no_entry = record { window = 0; bound = 0; points = [] }
+no_entry = record { window = 0; bound = 0; points = []; terms = [] }
 
 abbrev pub entry_at : Cert → ℕ → Entry
 entry_at cert i = slice_index_or cert.entries i no_entry

@@ -9,6 +9,7 @@ use Rattle.policy.specs.PolicyMeaning.{PolicyMeaning}
 use Rattle.preemption.specs.CutMeaning.{CutMeaning}
 use Rattle.preemption.specs.Kinds.{per_task_meaning}
 use Rattle.search_space.specs.Points.{is_point}
+use Rattle.certificate.specs.declared.cert.Version.TheVariants.{One}
 use Rattle.certificate.specs.declared.cert.Entry.{Entry}
 use Rattle.certificate.specs.declared.cert.Cert.{Cert}
 use Rattle.certificate.specs.Text.{point_of}
@@ -95,4 +96,4 @@ pub has_best : (seed n : ℕ) → 1 ≤ n → n ≤ 64 → HasBest seed n
 unfolding best_of
 has_best seed n some few =
     let all = has_entries seed n n some few (omega arith) in
-    record { cert = record { entries = all.entries }; best = rw (sheet_count seed n, all.listed) refl }
+    record { cert = record { version = One; entries = all.entries }; best = rw (sheet_count seed n, all.listed) refl }

@@ -27,7 +27,7 @@ module _ (p : PolicyMeaning) (sheet : SheetParts) (horizon : ℕ) where
       record {
         within = within;
         up_to = up_to;
-        short = text_short cert within (omega (arith, points_all cert.entries, ap (points_to cert.entries) best.count, best.few));
+        short = text_short cert best.version within (omega (arith, points_all cert.entries, ap (points_to cert.entries) best.count, best.few));
         accepted = accepted;
         sound = sound sheet valid (λ o b. refl) false (text_of cert) (bounds_of cert) accepted;
         least = least;

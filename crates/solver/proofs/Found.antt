@@ -67,6 +67,7 @@ module _ (p : PolicyMeaning) (m : CutMeaning) (sbf : ℕ → ℕ) (sheet : Sheet
         offsets = offsets_stay end (points_below p sheet i window);
         ends = ends;
         bound = found_least (MeetsEach p m sbf sheet i points) limit limit _ (bound_found p m sbf sheet i points limit) (omega arith) each;
+        plain = refl;
       }
 
   its_window : (i window : ℕ) → (best_of_window p m sbf sheet i window).window ≡ window

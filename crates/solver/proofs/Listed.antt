@@ -7,6 +7,7 @@ use Rattle.lists.specs.Limits.{most_points}
 use Rattle.task_sheet.specs.SheetParts.{SheetParts}
 use Rattle.policy.specs.PolicyMeaning.{PolicyMeaning}
 use Rattle.preemption.specs.CutMeaning.{CutMeaning}
+use Rattle.certificate.specs.declared.cert.Version.TheVariants.{One}
 use Rattle.certificate.specs.declared.cert.Entry.{Entry}
 use Rattle.certificate.specs.declared.cert.Point.{Point}
 use Rattle.solver.specs.Points.{points_below}
@@ -71,5 +72,5 @@ module _ (p : PolicyMeaning) (m : CutMeaning) (sbf : ℕ → ℕ) (sheet : Sheet
   pub have_entries : (i room : ℕ) (entries : List Entry) → i < length sheet.tasks → EntriesSoFar p m sbf sheet horizon i room entries → HaveEntries p m sbf sheet horizon i entries
   have_entries i room entries l so_far = record { task = l; count = so_far.count; best = so_far.best; few = omega (arith, so_far.room_left) }
 
-  pub all_entries : (n room : ℕ) (entries : List Entry) → n ≡ length sheet.tasks → EntriesSoFar p m sbf sheet horizon n room entries → IsBest p m sbf sheet horizon (record { entries = entries })
-  all_entries n room entries e so_far = record { count = omega (arith, e, so_far.count); best = so_far.best; few = omega (arith, so_far.room_left, ap (points_to entries) e) }
+  pub all_entries : (n room : ℕ) (entries : List Entry) → n ≡ length sheet.tasks → EntriesSoFar p m sbf sheet horizon n room entries → IsBest p m sbf sheet horizon (record { version = One; entries = entries })
+  all_entries n room entries e so_far = record { version = refl; count = omega (arith, e, so_far.count); best = so_far.best; few = omega (arith, so_far.room_left, ap (points_to entries) e) }

@@ -124,8 +124,8 @@ module _ (p : PolicyMeaning) (m : CutMeaning) (sbf : ℕ → ℕ) (sheet : Sheet
     pub so_far_more : (next : ℕ) → IsNextPoint p sheet i a window (Some next) → SoFar p m sbf sheet i window next (max least bound) (points ++ point_of a x ∷ [])
     so_far_more next n = record { lies = n.0; offsets = offsets_more next n; ends = each_push _ points (point_of a x) so_far.ends end; least = bound_more points a x bound least so_far.least here }
 
-    pub so_far_last : IsLeast (IsWindow p m sbf sheet i) window → IsNextPoint p sheet i a window None → IsBestEntry p m sbf sheet i (record { window = window; bound = max least bound; points = points ++ point_of a x ∷ [] })
-    so_far_last w n = record { window = w; offsets = offsets_last n; ends = each_push _ points (point_of a x) so_far.ends end; bound = bound_more points a x bound least so_far.least here }
+    pub so_far_last : IsLeast (IsWindow p m sbf sheet i) window → IsNextPoint p sheet i a window None → IsBestEntry p m sbf sheet i (record { window = window; bound = max least bound; points = points ++ point_of a x ∷ []; terms = [] })
+    so_far_last w n = record { window = w; offsets = offsets_last n; ends = each_push _ points (point_of a x) so_far.ends end; bound = bound_more points a x bound least so_far.least here; plain = refl }
 
 pub points_some : (p : PolicyMeaning) (sheet : SheetParts) (i window : ℕ) (points : List Point) → 1 ≤ window → map (λ q. q.offset) points ≡ points_below p sheet i window → 1 ≤ length points
 points_some p sheet i window points one e = omega (arith, ap length e, length-map points (λ (q : Point). q.offset), ap length (from_first p sheet i window one), from_some p sheet i window 0)

@@ -9,6 +9,8 @@ use Rattle.task_sheet.specs.SheetParts.{SheetParts}
 use Rattle.policy.specs.PolicyMeaning.{PolicyMeaning}
 use Rattle.preemption.specs.CutMeaning.{CutMeaning}
 use Rattle.certificate.specs.declared.cert.Entry.{Entry}
+use Rattle.certificate.specs.declared.cert.Version.{Version}
+use Rattle.certificate.specs.declared.cert.Terms.{Terms}
 use Rattle.certificate.specs.declared.cert.Point.{Point}
 use Rattle.certificate.specs.Text.{point_of}
 use Rattle.certificate.specs.declared.cert.Cert.{Cert}
@@ -23,17 +25,20 @@ use Rattle.solver.specs.Best.{IsBestEntry, MeetsEach, nth_entry, AreBest, points
 use Rattle.solver.specs.Answer.{IsAnswer}
 use Rattle.solver.proofs.Unique.{same_least}
 
-abbrev entry_of : ℕ → ℕ → List Point → Entry
-entry_of window bound points = record { window = window; bound = bound; points = points }
+abbrev entry_of : ℕ → ℕ → List Point → List Terms → Entry
+entry_of window bound points terms = record { window = window; bound = bound; points = points; terms = terms }
 
 abbrev refused_by : ℕ → Part → Result Cert AnalyseRefusal
 refused_by i part = Err (NoBound i part)
 
-abbrev cert_of : List Entry → Cert
-cert_of entries = record { entries = entries }
+abbrev cert_of : Version → List Entry → Cert
+cert_of version entries = record { version = version; entries = entries }
 
-entry_same : (w v b c : ℕ) (qs rs : List Point) → w ≡ v → b ≡ c → qs ≡ rs → entry_of w b qs ≡ entry_of v c rs
-entry_same w v b c qs rs e f g = rw (e, f, g) refl
+cert_same : (v w : Version) (es fs : List Entry) → v ≡ w → es ≡ fs → cert_of v es ≡ cert_of w fs
+cert_same v w es fs e f = rw (e, f) refl
+
+entry_same : (w v b c : ℕ) (qs rs : List Point) (ts us : List Terms) → w ≡ v → b ≡ c → qs ≡ rs → ts ≡ us → entry_of w b qs ts ≡ entry_of v c rs us
+entry_same w v b c qs rs ts us e f g h = rw (e, f, g, h) refl
 
 point_same : (a b x y : ℕ) → a ≡ b → x ≡ y → point_of a x ≡ point_of b y
 point_same a b x y e f = rw (e, f) refl
@@ -59,7 +64,7 @@ module _ (p : PolicyMeaning) (m : CutMeaning) (sbf : ℕ → ℕ) (sheet : Sheet
       let window : e.window ≡ f.window = same_least _ _ _ a.window b.window in
       let points : e.points ≡ f.points = same_points i e.points f.points (a.offsets ∙ ap (points_below p sheet i) window ∙ sym b.offsets) a.ends b.ends in
       let bound : e.bound ≡ f.bound = same_least (MeetsEach p m sbf sheet i e.points) e.bound f.bound a.bound (subst (λ qs. IsLeast (MeetsEach p m sbf sheet i qs) f.bound) (sym points) b.bound) in
-      entry_same e.window f.window e.bound f.bound e.points f.points window bound points
+      entry_same e.window f.window e.bound f.bound e.points f.points e.terms f.terms window bound points (a.plain ∙ sym b.plain)
 
 points_rise : (entries : List Entry) (n m : ℕ) → n ≤ m → points_to entries n ≤ points_to entries m
 points_rise entries n zero le = let e : n ≡ 0 = omega arith in omega (arith, ap (points_to entries) e)
@@ -176,7 +181,7 @@ module _ (p : PolicyMeaning) (m : CutMeaning) (sbf : ℕ → ℕ) (sheet : Sheet
   best_has_few cert i a b = many_stops i b (length sheet.tasks) cert.entries (first_of_best cert a) b.before.task
 
   same_best : (c d : Cert) → IsBest p m sbf sheet horizon c → IsBest p m sbf sheet horizon d → c ≡ d
-  same_best c d a b = ap cert_of (same_entries c.entries d.entries a.best b.best (omega (arith, a.count, b.count)))
+  same_best c d a b = cert_same c.version d.version c.entries d.entries (a.version ∙ sym b.version) (same_entries c.entries d.entries a.best b.best (omega (arith, a.count, b.count)))
 
   pub answers_same : (r s : Result Cert AnalyseRefusal) → IsAnswer p m sbf sheet horizon r → IsAnswer p m sbf sheet horizon s → r ≡ s
   answers_same (Ok c) (Ok d) a b = ap (λ (x : Cert). Ok x) (same_best c d a b)

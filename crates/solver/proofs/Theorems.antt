@@ -1,12 +1,15 @@
-use Rattle.std.proofs.Common.{◌≡◌, ℕ, ◌<◌, ◌≤◌, false, None, length, arith, Result, Ok, Err}
+use Rattle.std.proofs.Common.{◌≡◌, ℕ, ◌<◌, ◌≤◌, false, None, List, [], length, All, sym, ap, subst, arith, Result, Ok, Err}
 use Rattle.std.specs.Prelude.{IfOk, IfErr}
-use Rattle.std.proofs.lemmas.List.Elements.{All-from_recursion, All-get_or, All-from_get_or}
+use Rattle.std.proofs.lemmas.List.Elements.{All-nil, All-from_recursion, All-get_or, All-from_get_or}
 use Rattle.lists.specs.Limits.{greatest_number}
 use Rattle.task_sheet.specs.SheetParts.{SheetParts}
 use Rattle.policy.specs.PolicyMeaning.{PolicyMeaning}
 use Rattle.preemption.specs.CutMeaning.{CutMeaning}
+use Rattle.certificate.specs.declared.cert.Version.{Version}
+use Rattle.certificate.specs.declared.cert.Version.TheVariants.{One}
+use Rattle.certificate.specs.declared.cert.Entry.{Entry}
 use Rattle.certificate.specs.declared.cert.Cert.{Cert}
-use Rattle.certificate.specs.Text.{IsPoint, IsEntry, IsWithinGrammar}
+use Rattle.certificate.specs.Text.{IsPoint, IsTerms, IsEntry, HasTermsOf, IsWithinGrammar}
 use Rattle.conditions.specs.Conditions.{no_entry, entry_at, failed_of}
 use Rattle.conditions.proofs.MeetFacts.{cert_means, cert_none}
 use Rattle.solver.specs.Laws.{Laws}
@@ -102,9 +105,16 @@ module _ (p : PolicyMeaning) (m : CutMeaning) (sbf : ℕ → ℕ) (sheet : Sheet
           points = All-from_recursion IsPoint e.points (each_weaker _ IsPoint e.points (λ q h. record { offset = h.0; end = h.1 }) each);
         }
 
+    no_terms : (e : Entry) → e.terms ≡ [] → HasTermsOf One e
+    no_terms e plain = record { count = ap length plain; each = rw plain (All-nil IsTerms) }
+
+    entry_plain : (i : ℕ) → i < length cert.entries → HasTermsOf One (entry_at cert i)
+    entry_plain i l = no_terms (entry_at cert i) (best.best i l).best.plain
+
     pub best_within : horizon ≤ greatest_number → IsWithinGrammar cert
     best_within top = record {
       some = omega (arith, best.count, laws.valid.some);
       few = omega (arith, best.count, laws.valid.few);
       entries = All-from_get_or IsEntry cert.entries no_entry (entry_fits top);
+      terms = subst (λ (v : Version). All (HasTermsOf v) cert.entries) (sym best.version) (All-from_get_or (HasTermsOf One) cert.entries no_entry entry_plain);
     }

@@ -1,11 +1,12 @@
 -- The best certificate, and why there is none.
-use Rattle.std.specs.Prelude.{◌≡◌, ℕ, zero, suc, ◌+◌, ◌<◌, ◌≤◌, false, None, List, map, length, All, slice_index_or}
+use Rattle.std.specs.Prelude.{◌≡◌, ℕ, zero, suc, ◌+◌, ◌<◌, ◌≤◌, false, None, List, [], map, length, All, slice_index_or}
 use Rattle.std.specs.List.{AllByRecursion}
 use Rattle.lists.specs.Limits.{most_points}
 use Rattle.lists.specs.Searches.{IsLeast}
 use Rattle.task_sheet.specs.SheetParts.{SheetParts}
 use Rattle.policy.specs.PolicyMeaning.{PolicyMeaning}
 use Rattle.preemption.specs.CutMeaning.{CutMeaning}
+use Rattle.certificate.specs.declared.cert.Version.TheVariants.{One}
 use Rattle.certificate.specs.declared.cert.Entry.{Entry}
 use Rattle.certificate.specs.declared.cert.Point.{Point}
 use Rattle.certificate.specs.declared.cert.Cert.{Cert}
@@ -23,12 +24,14 @@ pub record MeetsEach (p : PolicyMeaning) (m : CutMeaning) (sbf : ℕ → ℕ) (s
   pub each : AllByRecursion (λ q. MeetsBound p m sbf sheet i q.offset q.end bound) points
 
 -- the best entry of task i: its window is the least that meets K3, its offsets are the points below it,
--- each end is the least that meets K7, and the bound the least that meets K2, and K6 and K8 at every point
+-- each end is the least that meets K7, and the bound the least that meets K2, and K6 and K8 at every point; it says
+-- no terms
 pub record IsBestEntry (p : PolicyMeaning) (m : CutMeaning) (sbf : ℕ → ℕ) (sheet : SheetParts) (i : ℕ) (e : Entry) : Type 0 where
   pub window : IsLeast (IsWindow p m sbf sheet i) e.window
   pub offsets : map (λ q. q.offset) e.points ≡ points_below p sheet i e.window
   pub ends : AllByRecursion (λ q. IsLeast (MeetsEnd p m sbf sheet i q.offset) q.end) e.points
   pub bound : IsLeast (MeetsEach p m sbf sheet i e.points) e.bound
+  pub plain : e.terms ≡ []
 
 abbrev pub nth_entry : List Entry → ℕ → Entry
 nth_entry entries i = slice_index_or entries i no_entry
@@ -48,8 +51,9 @@ abbrev pub points_to : List Entry → ℕ → ℕ
 points_to entries zero = 0
 points_to entries (suc n) = points_to entries n + length (nth_entry entries n).points
 
--- the best certificate up to the horizon
+-- the best certificate up to the horizon, in the first version
 pub record IsBest (p : PolicyMeaning) (m : CutMeaning) (sbf : ℕ → ℕ) (sheet : SheetParts) (horizon : ℕ) (cert : Cert) : Type 0 where
+  pub version : cert.version ≡ One
   pub count : length cert.entries ≡ length sheet.tasks
   pub best : AreBest p m sbf sheet horizon cert.entries
   pub few : points_to cert.entries (length sheet.tasks) ≤ most_points

@@ -6,6 +6,7 @@ use Rattle.task_sheet.specs.SheetParts.{SheetParts}
 use Rattle.task_sheet.specs.Sheets.{task_at}
 use Rattle.policy.specs.PolicyMeaning.{PolicyMeaning}
 use Rattle.preemption.specs.CutMeaning.{CutMeaning}
+use Rattle.certificate.specs.declared.cert.Version.TheVariants.{One}
 use Rattle.certificate.specs.declared.cert.Entry.{Entry}
 use Rattle.certificate.specs.declared.cert.Point.{Point}
 use Rattle.certificate.specs.Text.{point_of}
@@ -44,7 +45,7 @@ best_points p m sbf sheet i window = map (λ a. point_of a (or_zero (least_to (m
 unfoldable pub best_of_window : PolicyMeaning → CutMeaning → (ℕ → ℕ) → SheetParts → ℕ → ℕ → Entry
 best_of_window p m sbf sheet i window =
     let points = best_points p m sbf sheet i window in
-    record { window = window; bound = or_zero (least_to (meets_bound p m sbf sheet i points) (window + (task_at sheet i).jitter)); points = points }
+    record { window = window; bound = or_zero (least_to (meets_bound p m sbf sheet i points) (window + (task_at sheet i).jitter)); points = points; terms = [] }
 
 -- the entries with that of task i, where its bound is up to the horizon
 abbrev pub bounded_entry : ℕ → ℕ → List Entry → Entry → Result (List Entry) AnalyseRefusal
@@ -66,7 +67,7 @@ first_entries p m sbf sheet horizon zero = Ok []
 first_entries p m sbf sheet horizon (suc n) = next_entries p m sbf sheet horizon n (first_entries p m sbf sheet horizon n)
 
 abbrev pub as_cert : Result (List Entry) AnalyseRefusal → Result Cert AnalyseRefusal
-as_cert (Ok entries) = Ok (record { entries = entries })
+as_cert (Ok entries) = Ok (record { version = One; entries = entries })
 as_cert (Err e) = Err e
 
 -- the best certificate up to the horizon, or why there is none

@@ -10,7 +10,7 @@ ghost use Rattle.solver.specs.Outcome.{IsBestAnswer};
 use crate::entries::{best_entry, count_points};
 use crate::laws::laws;
 use crate::searches::least_window;
-use certificate::Cert;
+use certificate::{Cert, Version};
 use lists::Items;
 use lists::limits::MOST_POINTS;
 use policy::Policy;
@@ -79,6 +79,7 @@ fn best_cert<P: Policy, M: Preemption, S: Supply>(
         room -= count;
     }
     Ok(Cert {
+        version: Version::One,
         entries: Items::new(entries),
     })
 }

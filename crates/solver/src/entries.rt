@@ -73,6 +73,7 @@ pub fn best_entry<P: Policy, M: Preemption, S: Supply>(
                 window,
                 bound,
                 points: Items::new(points),
+                terms: Items::new(Vec::new(alloc)),
             });
         };
         a = next;

@@ -1,5 +1,7 @@
 //! Certificates written by hand.
-use certificate::{Cert, Entry, LineStep, Lines, Point, read_cert, write_cert};
+use certificate::{
+    Cert, Entry, LineStep, Lines, Point, Terms, Version, read_cert, text_len, write_cert,
+};
 use lists::Items;
 use poet_io::TextRefusal;
 use std::alloc::{AllocError, Global};
@@ -28,7 +30,7 @@ const WRITTEN: [(&[u8], &[Row]); 2] = [
 ];
 
 /// Bytes that are no certificate's text, and the line of the first byte that is wrong or missing.
-const REFUSED: [(&[u8], u64); 15] = [
+const REFUSED: [(&[u8], u64); 20] = [
     // `end` is missing.
     (b"poet-cert 1\ntasks 1\ntask 0 2 2 1\np 0 2\n", 5),
     // The newline of `end` is missing.
@@ -61,6 +63,26 @@ const REFUSED: [(&[u8], u64); 15] = [
         b"poet-cert 1\ntasks 1\ntask 0 2 2 1\np 0 2\np 1 2\nend\n",
         5,
     ),
+    // No such version.
+    (b"poet-cert 3\ntasks 1\ntask 0 2 2 1\np 0 2\nend\n", 1),
+    // The terms are missing.
+    (b"poet-cert 2\ntasks 1\ntask 0 2 2 1\np 0 2\nend\n", 4),
+    // Terms in the first version.
+    (
+        b"poet-cert 1\ntasks 1\ntask 0 2 2 1\np 0 2 1 1 0 2\nend\n",
+        4,
+    ),
+    // A term too many.
+    (
+        b"poet-cert 2\ntasks 1\ntask 0 2 2 1\np 0 2 1 1 0 2 2\nend\n",
+        4,
+    ),
+    // A term above 10^28.
+    (
+        b"poet-cert 2\ntasks 1\ntask 0 2 2 1\n\
+        p 0 2 1 1 0 10000000000000000000000000001\nend\n",
+        4,
+    ),
 ];
 
 fn make_points(alloc: Global, pairs: &[(u64, u64)]) -> Result<Items<Point>, AllocError> {
@@ -81,9 +103,11 @@ fn make_cert(alloc: Global, rows: &[Row]) -> Result<Cert, AllocError> {
             window: *window,
             bound: *bound,
             points: make_points(alloc, points)?,
+            terms: Items::new(Vec::new(alloc)),
         })?;
     }
     Ok(Cert {
+        version: Version::One,
         entries: Items::new(entries),
     })
 }
@@ -116,6 +140,15 @@ fn feed(lines: &mut Lines, bytes: &[u8]) -> LineStep {
     step
 }
 
+/// What the line of a point says in the first version.
+fn plain(offset: u64, end: u64) -> LineStep {
+    LineStep::Point {
+        offset,
+        end,
+        terms: None,
+    }
+}
+
 #[test]
 fn each_line_says_what_it_means(rt: HostRuntime) {
     let entry = LineStep::Entry {
@@ -128,7 +161,7 @@ fn each_line_says_what_it_means(rt: HostRuntime) {
         (b"poet-cert 1\n".as_slice(), LineStep::More, false),
         (b"tasks 1\n", LineStep::Tasks(1), false),
         (b"task 0 2 2 1\n", entry, false),
-        (b"p 0 2\n", LineStep::Point { offset: 0, end: 2 }, false),
+        (b"p 0 2\n", plain(0, 2), false),
         (b"end\n", LineStep::End, true),
         (b"\n", LineStep::Bad, false),
     ];
@@ -138,4 +171,99 @@ fn each_line_says_what_it_means(rt: HostRuntime) {
         assert_eq!(rt; lines.is_over(), is_over);
     }
     assert_eq!(rt; lines.line(), 6);
+}
+
+/// The certificate of two tasks, of which the second is never preempted, in both versions: the terms
+/// of its two points are 1, 1, 0, 2 and 0, 1, 1, 2.
+const BOTH: [&[u8]; 2] = [
+    b"poet-cert 1\ntasks 2\ntask 0 2 2 1\np 0 2\ntask 1 3 3 1\np 0 2\nend\n",
+    b"poet-cert 2\ntasks 2\ntask 0 2 2 1\np 0 2 1 1 0 2\n\
+    task 1 3 3 1\np 0 2 0 1 1 2\nend\n",
+];
+
+fn with_terms(blocking: u128, own: u128, others: u128, need: u128) -> LineStep {
+    LineStep::Point {
+        offset: 0,
+        end: 2,
+        terms: Some(Terms {
+            blocking,
+            own,
+            others,
+            need,
+        }),
+    }
+}
+
+/// What the lines of such a certificate say, with these points.
+fn both_steps(first: LineStep, second: LineStep) -> [LineStep; 6] {
+    let entry = |task, time| LineStep::Entry {
+        task,
+        window: time,
+        bound: time,
+        count: 1,
+    };
+    [
+        LineStep::Tasks(2),
+        entry(0, 2),
+        first,
+        entry(1, 3),
+        second,
+        LineStep::End,
+    ]
+}
+
+/// Feeds a piece of a text line by line, and keeps what its lines say.
+fn feed_piece(lines: &mut Lines, piece: &[u8], said: &mut Vec<LineStep>) -> Result<(), AllocError> {
+    let mut rest = piece;
+    for _ in piece {
+        let (len, step) = lines.feed_line(rest);
+        if step != LineStep::More {
+            said.push(step)?;
+        }
+        rest = &rest[len..];
+    }
+    Ok(())
+}
+
+#[test]
+fn lines_are_read_across_any_cut(rt: HostRuntime) -> Result<(), Fail> {
+    let alloc = rt.alloc();
+    let meanings = [
+        both_steps(plain(0, 2), plain(0, 2)),
+        both_steps(with_terms(1, 1, 0, 2), with_terms(0, 1, 1, 2)),
+    ];
+    for (text, steps) in BOTH.iter().zip(&meanings) {
+        for cut in 0..text.len() {
+            let mut lines = Lines::new();
+            let mut said = Vec::new(alloc);
+            feed_piece(&mut lines, &text[..cut], &mut said)?;
+            feed_piece(&mut lines, &text[cut..], &mut said)?;
+            assert_eq!(rt; said.as_slice(), steps.as_slice());
+            assert!(rt; lines.is_over());
+        }
+    }
+    Ok(())
+}
+
+#[test]
+fn terms_are_read_and_written(rt: HostRuntime) -> Result<(), Fail> {
+    let alloc = rt.alloc();
+    for text in BOTH {
+        let cert = read_cert(alloc, text)?;
+        assert_eq!(rt; text_len(&cert), text.len() as u64);
+        assert_eq!(rt; write_cert(alloc, &cert)?.as_slice(), text);
+    }
+    let cert = read_cert(alloc, BOTH[1])?;
+    assert_eq!(rt; cert.version, Version::Two);
+    let terms = Terms {
+        blocking: 0,
+        own: 1,
+        others: 1,
+        need: 2,
+    };
+    assert_eq!(rt;
+        cert.entries.as_slice()[1].terms.as_slice(),
+        [terms].as_slice()
+    );
+    Ok(())
 }

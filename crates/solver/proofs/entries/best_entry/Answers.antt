@@ -16,7 +16,7 @@ unreachable-requires-in_default-least_bound g c =
 
 pub returns-in_default-next_point-clause-best : goal.returns-in_default-next_point-clause-best
 returns-in_default-next_point-clause-best g c =
-    rw (c.new.ensures, c.in_ok-push.ensures.items, c.max-bound.ensures)
+    rw (c.new.ensures, c.new-in_default-next_point-2.ensures, c.new-in_default-next_point.ensures.items, c.in_ok-push.ensures.items, c.max-bound.ensures)
     (so_far_last _ _ _ _ c.laws.ensures _ _ _ _ _ c.loop-end.invariant _ _ c.in-Some.ensures.1 c.in-Some-least_bound.ensures.1 c.requires.least c.in_default-next_point.ensures)
 
 pub loop-end-preserved : goal.loop-end-preserved

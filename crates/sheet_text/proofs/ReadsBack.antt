@@ -12,7 +12,6 @@ use Rattle.curve.specs.CurveValue.{Curve}
 use Rattle.curve.specs.Validity.{IsCurve}
 use Rattle.curve.proofs.CurveFacts.{curve_passes}
 use Rattle.task_sheet.specs.declared.tasks.PolicyKind.{PolicyKind}
-use Rattle.task_sheet.specs.declared.tasks.PolicyKind.TheVariants.{Fp, Edf, Fifo}
 use Rattle.task_sheet.specs.declared.tasks.SupplySpec.{SupplySpec}
 use Rattle.task_sheet.specs.declared.tasks.SupplySpec.TheVariants.{Unit as Whole, Promised}
 use Rattle.task_sheet.specs.declared.tasks.Cut.{Cut}
@@ -29,7 +28,7 @@ use Rattle.sheet_text.specs.SupplyRows.{promised_rule}
 use Rattle.sheet_text.specs.CurveRows.{step_of, curve_rule}
 use Rattle.sheet_text.specs.CutRows.{segmented_rule, preemption_rule}
 use Rattle.sheet_text.specs.TaskRows.{name_rule, names_of, task_of, tasks_after}
-use Rattle.sheet_text.specs.SheetRows.{policy_rule, sheet_of}
+use Rattle.sheet_text.specs.SheetRows.{policy_rule, IsNamed, sheet_of}
 use Rattle.sheet_text.specs.Printed.{number_data, step_data, curve_data, cut_data, task_data, promise_data, sheet_data}
 
 numbers_again : (xs : List ℕ) → all_of number_of (items_of (map number_data xs)) ≡ Some xs
@@ -96,10 +95,8 @@ tasks_again policy done (t ∷ ts) rules curves =
     let rest : tasks_after policy (done ++ t ∷ []) (items_of (map task_data ts)) ≡ Ok ((done ++ t ∷ []) ++ ts) = tasks_again policy (done ++ t ∷ []) ts (rw (names, count) parts.1) (λ i l. curves (suc i) (omega arith)) in
     rw again (rest ∙ rw append_assoc refl)
 
-policy_again : (p : PolicyKind) → policy_rule (string (policy_word p)) ≡ Ok p
-policy_again Fp = refl
-policy_again Edf = refl
-policy_again Fifo = refl
+policy_again : (p : PolicyKind) → IsNamed p → policy_rule (string (policy_word p)) ≡ Ok p
+policy_again p named = rw named refl
 
 promise_again : (horizon : ℕ) (times : List ℕ) → supply_rule (Promised horizon times) ≡ Ok tt → promised_rule (promise_data horizon times) ≡ Ok (Promised horizon times)
 unfolding promised_rule
@@ -117,13 +114,13 @@ many [] = refl
 many (t ∷ ts) = omega (arith, many ts)
 
 -- a sheet's document says that sheet
-pub document_again : (p : PolicyKind) (s : SupplySpec) (ts : List Task) → supply_rule s ≡ Ok tt → is_between 1 256 (length ts) ≡ true → tasks_rule 0 [] ts ≡ Ok tt → ((i : ℕ) → i < length ts → IsCurve (get_or ts i no_task).curve) →
+pub document_again : (p : PolicyKind) (s : SupplySpec) (ts : List Task) → IsNamed p → supply_rule s ≡ Ok tt → is_between 1 256 (length ts) ≡ true → tasks_rule 0 [] ts ≡ Ok tt → ((i : ℕ) → i < length ts → IsCurve (get_or ts i no_task).curve) →
     sheet_of (table (sheet_data (parts_of p s ts))) ≡ Ok (parts_of p s ts)
 unfolding sheet_of
-document_again p Whole ts supply count rules curves = rw (policy_again p, tables ts, many ts, count, tasks_again p [] ts rules curves) refl
-document_again p (Promised horizon times) ts supply count rules curves = rw (policy_again p, promise_again horizon times supply, tables ts, many ts, count, tasks_again p [] ts rules curves) refl
+document_again p Whole ts named supply count rules curves = rw (policy_again p named, tables ts, many ts, count, tasks_again p [] ts rules curves) refl
+document_again p (Promised horizon times) ts named supply count rules curves = rw (policy_again p named, promise_again horizon times supply, tables ts, many ts, count, tasks_again p [] ts rules curves) refl
 
-pub sheet_again : (s : SheetParts) → IsValidSheet s → sheet_of (table (sheet_data s)) ≡ Ok s
-sheet_again s valid =
+pub sheet_again : (s : SheetParts) → IsValidSheet s → IsNamed s.policy → sheet_of (table (sheet_data s)) ≡ Ok s
+sheet_again s valid named =
     let count = and_from _ _ (le-leb 1 (length s.tasks) valid.some) (le-leb (length s.tasks) 256 valid.few) in
-    document_again s.policy s.supply s.tasks (promise_passes s.supply valid.supply) count (tasks_from_valid s valid) (λ i l. (valid.each i l).curve)
+    document_again s.policy s.supply s.tasks named (promise_passes s.supply valid.supply) count (tasks_from_valid s valid) (λ i l. (valid.each i l).curve)

@@ -1,4 +1,4 @@
-use Rattle.std.specs.Prelude.{ℕ, List, [], ◌∷◌, codes, Option, Some, None, Result, Ok, Err, if◌then◌else◌, bytes_eq}
+use Rattle.std.specs.Prelude.{◌≡◌, ℕ, List, [], ◌∷◌, codes, Option, Some, None, Result, Ok, Err, if◌then◌else◌, bytes_eq}
 use Rattle.lists.specs.Limits.{most_tasks}
 use Rattle.toml.specs.Data.{Data, string, array, Items, get}
 use Rattle.toml.specs.Text.{are_tables}
@@ -27,6 +27,10 @@ policy_named word =
     else if bytes_eq word (policy_word Edf) then Some Edf
     else if bytes_eq word (policy_word Fifo) then Some Fifo
     else None
+
+-- the policies that a sheet's text can name
+abbrev pub IsNamed : PolicyKind → Type 0
+IsNamed policy = policy_named (policy_word policy) ≡ Some policy
 
 -- a policy is a word of these
 abbrev pub policy_rule : Data → Result PolicyKind SheetRefusal

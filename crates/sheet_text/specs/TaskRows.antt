@@ -3,7 +3,7 @@ use Rattle.std.specs.List.{list_any}
 use Rattle.lists.specs.Limits.{greatest_number}
 use Rattle.toml.specs.Data.{Data, string, Items, no_items, item, get}
 use Rattle.task_sheet.specs.declared.tasks.PolicyKind.{PolicyKind}
-use Rattle.task_sheet.specs.declared.tasks.PolicyKind.TheVariants.{Fp, Edf, Fifo}
+use Rattle.task_sheet.specs.declared.tasks.PolicyKind.TheVariants.{Fp, Edf, Fifo, Gel, Elf}
 use Rattle.task_sheet.specs.declared.tasks.Task.{Task}
 use Rattle.task_sheet.specs.declared.refusal.Place.{Place}
 use Rattle.task_sheet.specs.declared.refusal.Place.TheVariants as places
@@ -28,11 +28,13 @@ name_rule n names (string s) =
     >>= (λ _. Ok s))
 name_rule n names _ = Err (Kind (places.Task n) fields.Name)
 
--- only under fixed priorities has a task to say its priority
+-- only under policies by priority has a task to say it
 abbrev pub unsaid_priority : PolicyKind → Place → Result ℕ SheetRefusal
 unsaid_priority Fp place = Err (Missing place fields.Priority)
 unsaid_priority Edf place = Ok 0
 unsaid_priority Fifo place = Ok 0
+unsaid_priority Gel place = Ok 0
+unsaid_priority Elf place = Err (Missing place fields.Priority)
 
 -- a priority, where 0 is one, or none
 abbrev pub priority_rule : PolicyKind → Place → Option Data → Result ℕ SheetRefusal

@@ -9,7 +9,7 @@ ghost use Rattle.task_sheet.specs.Rules.{are_in_range};
 ghost use Rattle.task_sheet.specs.Sheets.{IsPromise, IsTask, IsValidSheet};
 ghost use Rattle.sheet_text.specs.Printed.{put as put_of, put_jitter as put_jitter_of, array_data, number_data, step_data, curve_data, cut_data, plain_data, task_data, promise_data, put_promise as put_promise_of, sheet_data};
 ghost use Rattle.sheet_text.specs.Documents.{document_of};
-ghost use Rattle.sheet_text.specs.SheetRows.{sheet_of_text};
+ghost use Rattle.sheet_text.specs.SheetRows.{sheet_of_text, IsNamed};
 
 use curve::{Prefix, Step};
 use std::alloc::{AllocError, Global};
@@ -191,11 +191,12 @@ fn sheet_table(alloc: Global, sheet: &Sheet) -> Result<Table, AllocError>
     Ok(table)
 }
 
-/// The text of a sheet: a TOML document that [`read_sheet`](crate::read_sheet) reads as that sheet.
+/// The text of a sheet: a TOML document that [`read_sheet`](crate::read_sheet) reads as that sheet,
+/// where a text can name its policy.
 ///
 /// Keys stand in the order of their bytes. A period is printed as the curve that it means.
 pub fn print_sheet(alloc: Global, sheet: &Sheet) -> Result<Vec<u8>, AllocError>
-    ensures reads { IfOk result (λ text. sheet_of_text text.items ≡ Ok sheet.now) }
+    ensures reads { IfOk result (λ text. IsNamed sheet.now.policy → sheet_of_text text.items ≡ Ok sheet.now) }
     ensures document { IfOk result (λ text. document_of text.items ≡
         Some (table (sheet_data sheet.now))) }
 {

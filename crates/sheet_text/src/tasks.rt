@@ -93,11 +93,11 @@ fn unsaid_priority(policy: PolicyKind, place: Place) -> Result<u64, SheetRefusal
     ensures within { IfOk result (λ n. n ≤ greatest_number) }
 {
     match policy {
-        PolicyKind::Fp => Err(SheetRefusal::Missing {
+        PolicyKind::Fp | PolicyKind::Elf => Err(SheetRefusal::Missing {
             place,
             field: Field::Priority,
         }),
-        PolicyKind::Edf | PolicyKind::Fifo => Ok(0),
+        PolicyKind::Edf | PolicyKind::Fifo | PolicyKind::Gel => Ok(0),
     }
 }
 

@@ -1,1 +1,2 @@
 pub mod JitterBounds
+pub mod PointBounds

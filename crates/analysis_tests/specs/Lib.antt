@@ -1,1 +1,2 @@
 pub mod JitterSheets
+pub mod PointSheets

@@ -3,13 +3,14 @@ ghost use Rattle.std.specs.Prelude.{◌≤◌, ◌<◌, length};
 
 use crate::sheets::{EIGHT_TASKS, JITTER, JITTER_BLOCKING, JITTER_POINTS, TWO_DEADLINES, sheet_of};
 use certificate::{Cert, read_cert};
-use policy::{Edf, Fifo, Fp};
+use policy::Fp;
+use policy_more::by_policy;
 use preemption::PerTask;
 use solver::{AnalyseRefusal, Part, analyse, least_bound, least_end, least_window};
 use std::alloc::Global;
 use std::test::Fail;
 use supply::Unit;
-use task_sheet::{PolicyKind, Sheet};
+use task_sheet::Sheet;
 
 const OF_EIGHT_TASKS: &str = "poet-cert 1
 tasks 8
@@ -176,11 +177,7 @@ task = [
 /// The best certificate by the sheet's policy up to the horizon, or to 10^9.
 fn analysed(alloc: Global, sheet: &Sheet, horizon: u64) -> Result<Cert, AnalyseRefusal> {
     let horizon = horizon.min(1_000_000_000);
-    match sheet.policy() {
-        PolicyKind::Fp => analyse::<Fp, PerTask, Sheet>(alloc, sheet, sheet, horizon),
-        PolicyKind::Edf => analyse::<Edf, PerTask, Sheet>(alloc, sheet, sheet, horizon),
-        PolicyKind::Fifo => analyse::<Fifo, PerTask, Sheet>(alloc, sheet, sheet, horizon),
-    }
+    by_policy!(sheet.policy() => analyse::<_, PerTask, Sheet>(alloc, sheet, sheet, horizon))
 }
 
 #[test]

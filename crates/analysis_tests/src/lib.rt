@@ -16,4 +16,6 @@ mod needs;
 #[cfg(test)]
 mod offsets;
 #[cfg(test)]
+mod points;
+#[cfg(test)]
 mod sheets;

@@ -1,6 +1,7 @@
 //! What the policies mean, on two tasks of priorities 2 and 1 and deadlines 4 and 6.
 use lists::Items;
 use policy::{Cap, Edf, Fifo, Fp, Key, Policy};
+use policy_more::{Elf, Gel};
 use small_tasks::{Draft, PLAIN, make_tasks};
 use std::alloc::Global;
 use std::process::Abort;
@@ -84,14 +85,26 @@ fn rows_are<P: Policy>(rt: &impl Abort, sheet: &Sheet, rows: &[Row]) {
 fn the_table(rt: HostRuntime) -> Result<(), Fail> {
     let alloc = rt.alloc();
     let sheet = make_sheet(alloc)?;
-    let names = [Fp::NAME, Edf::NAME, Fifo::NAME];
-    assert_eq!(rt; names, ["fp", "edf", "fifo"]);
+    let names = [Fp::NAME, Edf::NAME, Fifo::NAME, Gel::NAME, Elf::NAME];
+    assert_eq!(rt; names, ["fp", "edf", "fifo", "gel", "elf"]);
     keys_are::<Fp>(&rt, alloc, &sheet, [999_999_998, 999_999_999]);
     keys_are::<Edf>(&rt, alloc, &sheet, [9, 11]);
     keys_are::<Fifo>(&rt, alloc, &sheet, [5, 5]);
     rows_are::<Fp>(&rt, &sheet, &FP);
     rows_are::<Edf>(&rt, &sheet, &EDF);
     rows_are::<Fifo>(&rt, &sheet, &FIFO);
+    Ok(())
+}
+
+/// Where all points are 0, arrivals decide under `gel`, and priorities under `elf`.
+#[test]
+fn no_points(rt: HostRuntime) -> Result<(), Fail> {
+    let alloc = rt.alloc();
+    let sheet = make_sheet(alloc)?;
+    keys_are::<Gel>(&rt, alloc, &sheet, [5, 5]);
+    keys_are::<Elf>(&rt, alloc, &sheet, [999_999_998, 999_999_999]);
+    rows_are::<Gel>(&rt, &sheet, &FIFO);
+    rows_are::<Elf>(&rt, &sheet, &FP);
     Ok(())
 }
 

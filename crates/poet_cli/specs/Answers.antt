@@ -6,7 +6,7 @@ use Rattle.task_sheet.specs.Sheets.{task_at}
 use Rattle.task_sheet.specs.declared.refusal.SheetRefusal.{SheetRefusal}
 use Rattle.task_sheet.specs.declared.refusal.SheetRefusal.TheVariants as sheets
 use Rattle.sheet_text.specs.SheetRows.{sheet_of_text}
-use Rattle.policy.specs.Policies.{meaning_of}
+use Rattle.policy_more.specs.Meanings.{meaning_of}
 use Rattle.preemption.specs.Kinds.{per_task_meaning}
 use Rattle.supply.specs.Promises.{sbf_of}
 use Rattle.cert_check.specs.declared.judging.Verdict.{Verdict}

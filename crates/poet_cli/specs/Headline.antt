@@ -6,7 +6,7 @@ use Rattle.poet_io.specs.Texts.{Parses}
 use Rattle.task_sheet.specs.SheetParts.{SheetParts}
 use Rattle.certificate.specs.declared.cert.Cert.{Cert}
 use Rattle.certificate.specs.Text.{cert_format}
-use Rattle.policy.specs.Policies.{meaning_of}
+use Rattle.policy_more.specs.Meanings.{meaning_of}
 use Rattle.preemption.specs.Kinds.{per_task_meaning}
 use Rattle.supply.specs.Promises.{sbf_of}
 use Rattle.run_model.specs.declared.run.Run.{Run}

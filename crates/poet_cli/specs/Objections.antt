@@ -4,7 +4,7 @@ use Rattle.poet_io.specs.declared.log.Event.{Event}
 use Rattle.poet_io.specs.Shelves.{Files}
 use Rattle.poet_io.specs.Texts.{Parses}
 use Rattle.task_sheet.specs.SheetParts.{SheetParts}
-use Rattle.policy.specs.Policies.{meaning_of}
+use Rattle.policy_more.specs.Meanings.{meaning_of}
 use Rattle.preemption.specs.Kinds.{per_task_meaning}
 use Rattle.supply.specs.Promises.{sbf_of}
 use Rattle.certificate.specs.declared.cert.Cert.{Cert}

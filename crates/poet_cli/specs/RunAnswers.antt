@@ -3,7 +3,7 @@ use Rattle.std.specs.Prelude.{◌≡◌, ℕ, List, Result, Ok, Err}
 use Rattle.poet_io.specs.declared.text_refusal.TextRefusal.{TextRefusal}
 use Rattle.poet_io.specs.declared.text_refusal.TextRefusal.TheVariants as texts
 use Rattle.task_sheet.specs.SheetParts.{SheetParts}
-use Rattle.policy.specs.Policies.{meaning_of}
+use Rattle.policy_more.specs.Meanings.{meaning_of}
 use Rattle.preemption.specs.Kinds.{per_task_meaning}
 use Rattle.supply.specs.Promises.{sbf_of}
 use Rattle.run_model.specs.declared.run.Run.{Run}

@@ -2,7 +2,7 @@
 ghost use Rattle.std.specs.Prelude.{◌≡◌, ◌≤◌, IfOk, IfErr};
 ghost use Rattle.lists.specs.Limits.{greatest_number};
 ghost use Rattle.policy.specs.PolicyMeaning.{PolicyMeaning};
-ghost use Rattle.policy.specs.Policies.{meaning_of};
+ghost use Rattle.policy_more.specs.Meanings.{meaning_of};
 ghost use Rattle.preemption.specs.Kinds.{per_task_meaning};
 ghost use Rattle.supply.specs.Promises.{sbf_of};
 ghost use Rattle.task_sheet.specs.Sheets.{task_at};
@@ -20,12 +20,13 @@ use cert_check::accepted_is_sound;
 use certificate::{Cert, write_cert};
 use lists::{Items, Text};
 use poet_io::Shelf;
-use policy::{Edf, Fifo, Fp, Policy};
+use policy::Policy;
+use policy_more::by_policy;
 use preemption::PerTask;
 use solver::{AnalyseRefusal, analyse};
 use std::alloc::{AllocError, Global};
 use supply::Supply;
-use task_sheet::{PolicyKind, Sheet};
+use task_sheet::Sheet;
 
 /// The best certificate by a policy, and the sheet's own preemption and supply.
 fn best_by<P: Policy>(alloc: Global, sheet: &Sheet, horizon: u64) -> Result<Cert, AnalyseRefusal>
@@ -48,11 +49,7 @@ fn best(alloc: Global, sheet: &Sheet, horizon: u64) -> Result<Cert, AnalyseRefus
     ensures best { IfOk result (IsBestBy (meaning_of sheet.now.policy) sheet.now horizon) }
     ensures none { IfErr result (IsNoneBy (meaning_of sheet.now.policy) sheet.now horizon) }
 {
-    match sheet.policy() {
-        PolicyKind::Fp => best_by::<Fp>(alloc, sheet, horizon),
-        PolicyKind::Edf => best_by::<Edf>(alloc, sheet, horizon),
-        PolicyKind::Fifo => best_by::<Fifo>(alloc, sheet, horizon),
-    }
+    by_policy!(sheet.policy() => best_by::<_>(alloc, sheet, horizon))
 }
 
 /// A copy of a task's name.

@@ -1,6 +1,6 @@
 //! How `audit` ends.
 ghost use Rattle.std.specs.Prelude.{◌≡◌, IfOk};
-ghost use Rattle.policy.specs.Policies.{meaning_of};
+ghost use Rattle.policy_more.specs.Meanings.{meaning_of};
 ghost use Rattle.preemption.specs.Kinds.{per_task_meaning};
 ghost use Rattle.supply.specs.Promises.{sbf_of};
 ghost use Rattle.run_text.specs.Text.{IsWithinLimits};
@@ -20,12 +20,12 @@ use crate::refusal::{Refusal, Source};
 use crate::run_printing::print_of;
 use audit::{AuditVerdict, audit};
 use poet_io::{Shelf, TextRefusal};
-use policy::{Edf, Fifo, Fp};
+use policy_more::by_policy;
 use preemption::PerTask;
 use run_model::Run;
 use run_text::read_run;
 use std::alloc::{AllocError, Global};
-use task_sheet::{PolicyKind, Sheet};
+use task_sheet::Sheet;
 
 /// The verdict by the sheet's own policy, preemption and supply.
 pub fn verdict_on(alloc: Global, sheet: &Sheet, run: &Run) -> Result<AuditVerdict, AllocError>
@@ -33,11 +33,7 @@ pub fn verdict_on(alloc: Global, sheet: &Sheet, run: &Run) -> Result<AuditVerdic
     ensures exact { IfOk result (λ v. v ≡ audit_for sheet.now run.now) }
     ensures tells { IfOk result (TellsCompliance (meaning_of sheet.now.policy) per_task_meaning (sbf_of sheet.now.supply) sheet.now run.now) }
 {
-    match sheet.policy() {
-        PolicyKind::Fp => audit::<Fp, PerTask, Sheet>(alloc, sheet, sheet, run),
-        PolicyKind::Edf => audit::<Edf, PerTask, Sheet>(alloc, sheet, sheet, run),
-        PolicyKind::Fifo => audit::<Fifo, PerTask, Sheet>(alloc, sheet, sheet, run),
-    }
+    by_policy!(sheet.policy() => audit::<_, PerTask, Sheet>(alloc, sheet, sheet, run))
 }
 
 /// What is printed of a run.

@@ -1,7 +1,7 @@
 //! How `check` ends.
 ghost use Rattle.std.specs.Prelude.{◌≡◌, IfOk};
 ghost use Rattle.cert_check.specs.Verdicts.{IsVerdict, IsBoundedBy};
-ghost use Rattle.policy.specs.Policies.{meaning_of};
+ghost use Rattle.policy_more.specs.Meanings.{meaning_of};
 ghost use Rattle.preemption.specs.Kinds.{per_task_meaning};
 ghost use Rattle.supply.specs.Promises.{sbf_of};
 ghost use Rattle.poet_cli.specs.Answers.{sheet_verdict};
@@ -15,10 +15,10 @@ use crate::reading::{read_file, sheet_at};
 use crate::refusal::{Refusal, Source};
 use cert_check::{Verdict, check_cert};
 use poet_io::Shelf;
-use policy::{Edf, Fifo, Fp};
+use policy_more::by_policy;
 use preemption::PerTask;
 use std::alloc::{AllocError, Global};
-use task_sheet::{PolicyKind, Sheet};
+use task_sheet::Sheet;
 
 /// The verdict by the sheet's own policy, preemption and supply: the sheet is the supply that it
 /// states.
@@ -32,13 +32,7 @@ fn verdict(
     ensures judged { IfOk result (IsVerdict (meaning_of sheet.now.policy) per_task_meaning (sbf_of sheet.now.supply) sheet.now deadlines bytes.now) }
     ensures bounded { IfOk result (IsBoundedBy (meaning_of sheet.now.policy) per_task_meaning (sbf_of sheet.now.supply) sheet.now deadlines) }
 {
-    match sheet.policy() {
-        PolicyKind::Fp => check_cert::<Fp, PerTask, Sheet>(alloc, sheet, sheet, deadlines, bytes),
-        PolicyKind::Edf => check_cert::<Edf, PerTask, Sheet>(alloc, sheet, sheet, deadlines, bytes),
-        PolicyKind::Fifo => check_cert::<Fifo, PerTask, Sheet>(
-            alloc, sheet, sheet, deadlines, bytes,
-        ),
-    }
+    by_policy!(sheet.policy() => check_cert::<_, PerTask, Sheet>(alloc, sheet, sheet, deadlines, bytes))
 }
 
 /// How `check` ends, over a sheet and the bytes of a certificate.

@@ -1,7 +1,7 @@
 //! How `report` ends.
 ghost use Rattle.std.specs.Prelude.{◌≡◌, false, None, IfOk};
 ghost use Rattle.certificate.specs.Text.{IsWithinGrammar};
-ghost use Rattle.policy.specs.Policies.{meaning_of};
+ghost use Rattle.policy_more.specs.Meanings.{meaning_of};
 ghost use Rattle.preemption.specs.Kinds.{per_task_meaning};
 ghost use Rattle.supply.specs.Promises.{sbf_of};
 ghost use Rattle.cert_check.specs.Verdicts.{bounds_of, AreSound};
@@ -22,11 +22,11 @@ use certificate::{Cert, read_cert};
 use conditions::Failed;
 use lists::Items;
 use poet_io::{Shelf, TextRefusal};
-use policy::{Edf, Fifo, Fp};
+use policy_more::by_policy;
 use preemption::PerTask;
 use report::{json_report, text_report};
 use std::alloc::{AllocError, Global};
-use task_sheet::{PolicyKind, Sheet};
+use task_sheet::Sheet;
 
 /// The first condition that a certificate fails to meet, by the sheet's own policy, preemption and
 /// supply.
@@ -35,11 +35,7 @@ fn first_failed(sheet: &Sheet, cert: &Cert) -> Option<Failed>
     ensures defined { result ≡ failed_for sheet.now cert.now }
     ensures bounded { result ≡ None → AreSound (meaning_of sheet.now.policy) per_task_meaning (sbf_of sheet.now.supply) sheet.now false (bounds_of cert.now) }
 {
-    match sheet.policy() {
-        PolicyKind::Fp => judge_cert::<Fp, PerTask, Sheet>(sheet, sheet, cert, false),
-        PolicyKind::Edf => judge_cert::<Edf, PerTask, Sheet>(sheet, sheet, cert, false),
-        PolicyKind::Fifo => judge_cert::<Fifo, PerTask, Sheet>(sheet, sheet, cert, false),
-    }
+    by_policy!(sheet.policy() => judge_cert::<_, PerTask, Sheet>(sheet, sheet, cert, false))
 }
 
 /// The report on a certificate, or the first condition that fails.

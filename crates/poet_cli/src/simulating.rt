@@ -1,7 +1,7 @@
 //! How `simulate` ends.
 ghost use Rattle.std.specs.Prelude.{◌≡◌, ◌≤◌, IfOk};
 ghost use Rattle.lists.specs.Limits.{most_ticks};
-ghost use Rattle.policy.specs.Policies.{meaning_of};
+ghost use Rattle.policy_more.specs.Meanings.{meaning_of};
 ghost use Rattle.preemption.specs.Kinds.{per_task_meaning};
 ghost use Rattle.supply.specs.Promises.{sbf_of};
 ghost use Rattle.run_text.specs.Text.{IsWithinLimits};
@@ -19,14 +19,14 @@ use crate::reading::sheet_at;
 use crate::refusal::Refusal;
 use lists::Items;
 use poet_io::Shelf;
-use policy::{Edf, Fifo, Fp};
+use policy_more::by_policy;
 use preemption::PerTask;
 use run_model::Run;
 use run_text::write_run;
 use simulated_run::Mode;
 use simulator::{SimRefusal, simulate};
 use std::alloc::Global;
-use task_sheet::{PolicyKind, Sheet};
+use task_sheet::Sheet;
 
 /// The simulated run by the sheet's own policy, preemption and supply.
 pub fn simulation(alloc: Global, sheet: &Sheet, mode: Mode, ticks: u64) -> Result<Run, SimRefusal>
@@ -36,11 +36,7 @@ pub fn simulation(alloc: Global, sheet: &Sheet, mode: Mode, ticks: u64) -> Resul
     ensures full { mode ≡ Dense → IfOk result (IsDense sheet.now ticks) }
     ensures within { IfOk result IsWithinLimits }
 {
-    match sheet.policy() {
-        PolicyKind::Fp => simulate::<Fp, PerTask, Sheet>(alloc, sheet, sheet, mode, ticks),
-        PolicyKind::Edf => simulate::<Edf, PerTask, Sheet>(alloc, sheet, sheet, mode, ticks),
-        PolicyKind::Fifo => simulate::<Fifo, PerTask, Sheet>(alloc, sheet, sheet, mode, ticks),
-    }
+    by_policy!(sheet.policy() => simulate::<_, PerTask, Sheet>(alloc, sheet, sheet, mode, ticks))
 }
 
 /// What the simulation of a sheet comes to.

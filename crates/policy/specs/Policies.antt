@@ -1,8 +1,6 @@
 use Rattle.std.specs.Prelude.{◌+◌, ◌&&◌, true, pos, ◌-ℤ◌, nat_lt, nat_le, if◌then◌else◌}
 use Rattle.lists.specs.Limits.{greatest_number}
 use Rattle.task_sheet.specs.Sheets.{task_at}
-use Rattle.task_sheet.specs.declared.tasks.PolicyKind.{PolicyKind}
-use Rattle.task_sheet.specs.declared.tasks.PolicyKind.TheVariants.{Fp, Edf, Fifo}
 use Rattle.policy.specs.declared.keys.Cap.TheVariants.{Nothing, At, All}
 use Rattle.policy.specs.PolicyMeaning.{PolicyMeaning}
 
@@ -35,9 +33,3 @@ fifo_meaning = record {
   may_block = λ sheet i o a. nat_lt a (task_at sheet i).jitter;
   may_delay = λ sheet i o. nat_lt 0 (task_at sheet i).jitter;
 }
-
--- what a sheet's policy means
-abbrev pub meaning_of : PolicyKind → PolicyMeaning
-meaning_of Fp = fp_meaning
-meaning_of Edf = edf_meaning
-meaning_of Fifo = fifo_meaning

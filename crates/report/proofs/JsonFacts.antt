@@ -5,7 +5,7 @@ use Rattle.serde_json.specs.View.{items_of}
 use Rattle.serde_json.specs.Written.{compact_text, items_text, has_float, items_have_float}
 use Rattle.serde_json.proofs.OnLiterals.{serde_json_on_literals}
 use Rattle.task_sheet.specs.declared.tasks.PolicyKind.{PolicyKind}
-use Rattle.task_sheet.specs.declared.tasks.PolicyKind.TheVariants.{Fp, Edf, Fifo}
+use Rattle.task_sheet.specs.declared.tasks.PolicyKind.TheVariants.{Fp, Edf, Fifo, Gel, Elf}
 use Rattle.task_sheet.specs.SheetParts.{SheetParts}
 use Rattle.task_sheet.specs.Words.{policy_word}
 use Rattle.certificate.specs.declared.cert.Cert.{Cert}
@@ -58,6 +58,8 @@ unfolding serde_json_on_literals
 object_text missed Fp tasks inner h = rw h (ap (λ (t : List ℕ). codes "{\"missed\":" ++ t) (joined missed (codes ",\"policy\":\"fp\",\"tasks\":[") inner))
 object_text missed Edf tasks inner h = rw h (ap (λ (t : List ℕ). codes "{\"missed\":" ++ t) (joined missed (codes ",\"policy\":\"edf\",\"tasks\":[") inner))
 object_text missed Fifo tasks inner h = rw h (ap (λ (t : List ℕ). codes "{\"missed\":" ++ t) (joined missed (codes ",\"policy\":\"fifo\",\"tasks\":[") inner))
+object_text missed Gel tasks inner h = rw h (ap (λ (t : List ℕ). codes "{\"missed\":" ++ t) (joined missed (codes ",\"policy\":\"gel\",\"tasks\":[") inner))
+object_text missed Elf tasks inner h = rw h (ap (λ (t : List ℕ). codes "{\"missed\":" ++ t) (joined missed (codes ",\"policy\":\"elf\",\"tasks\":[") inner))
 
 pub report : (sheet : SheetParts) (cert : Cert) → compact_text (report_data sheet cert) ++ codes "\n" ≡ json_report_of sheet cert
 unfolding json_report_of

@@ -14,6 +14,10 @@ pub enum PolicyKind {
     Edf,
     /// First in, first out.
     Fifo,
+    /// By priority points: an earlier arrival plus point is more urgent.
+    Gel,
+    /// By priorities as `Fp`, and among equal ones by points as `Gel`.
+    Elf,
 }
 
 impl PolicyKind {
@@ -25,6 +29,8 @@ impl PolicyKind {
             PolicyKind::Fp => "fp",
             PolicyKind::Edf => "edf",
             PolicyKind::Fifo => "fifo",
+            PolicyKind::Gel => "gel",
+            PolicyKind::Elf => "elf",
         }
     }
 }

@@ -1,0 +1,3 @@
+pub mod PointPolicies
+pub mod Meanings
+pub mod Lawful

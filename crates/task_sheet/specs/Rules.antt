@@ -21,7 +21,7 @@ most_jitter = greatest_number
 
 -- how far from 0 a priority point lies at most
 unfoldable pub most_point : ℕ
-most_point = 0
+most_point = greatest_number
 
 abbrev pub is_priority_point : ℤ → Bool
 is_priority_point q = int_le (neg_ℤ (pos most_point)) q && int_le q (pos most_point)

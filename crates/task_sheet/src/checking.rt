@@ -5,7 +5,7 @@ ghost use Rattle.curve.specs.Validity.{IsCurve};
 ghost use Rattle.task_sheet.specs.Sheets.{no_task};
 ghost use Rattle.std.specs.List.{list_all, list_any};
 ghost use Rattle.lists.specs.Ranges.{is_between as is_between_of};
-ghost use Rattle.task_sheet.specs.Rules.{is_name as is_name_of, is_in_range as is_in_range_of, are_in_range as are_in_range_of, are_times as are_times_of, supply_rule, promise_rule, segments_rule, cut_rule, task_rule, tasks_rule, last_number, rise_above};
+ghost use Rattle.task_sheet.specs.Rules.{is_name as is_name_of, is_priority_point as is_priority_point_of, is_in_range as is_in_range_of, are_in_range as are_in_range_of, are_times as are_times_of, supply_rule, promise_rule, segments_rule, cut_rule, task_rule, tasks_rule, last_number, rise_above};
 ghost use Rattle.task_sheet.specs.Refusing.{holds as holds_of};
 
 use crate::refusal::{Field, Place, SheetRefusal};
@@ -15,7 +15,7 @@ use lists::limits::{GREATEST_NUMBER, MOST_PARTS};
 /// The greatest jitter of a task.
 pub const MOST_JITTER: u64 = GREATEST_NUMBER;
 /// How far from 0 a priority point lies at most.
-pub const MOST_POINT: i64 = 0;
+pub const MOST_POINT: i64 = GREATEST_NUMBER as i64;
 
 fn is_in_range(n: u64) -> bool
     ensures { result ≡ is_in_range_of n }
@@ -57,6 +57,14 @@ pub fn is_name(name: &str) -> bool
     ensures { result ≡ is_name_of name.now }
 {
     1 <= name.len() && name.len() <= 32 && all_printable(name.as_bytes())
+}
+
+/// Whether a task may have the priority point.
+#[tactic(auto, unfolding(crate::specs::Rules::most_point))]
+pub fn is_priority_point(point: i64) -> bool
+    ensures { result ≡ is_priority_point_of point }
+{
+    -MOST_POINT <= point && point <= MOST_POINT
 }
 
 fn are_times(horizon: u64, times: &[u64]) -> bool
@@ -180,7 +188,7 @@ fn is_taken(name: &str, earlier: &[Task]) -> bool
     false
 }
 
-#[tactic(auto, unfolding(crate::specs::Rules::task_rule, crate::specs::Rules::most_jitter, crate::specs::Rules::most_point))]
+#[tactic(auto, unfolding(crate::specs::Rules::task_rule, crate::specs::Rules::most_jitter))]
 fn check_task(n: u32, earlier: &[Task], task: &Task) -> Result<(), SheetRefusal>
     ensures rule { result ≡ task_rule n (map (λ t. t.name) earlier.now) task.now }
     ensures curve { IsCurve task.now.curve }
@@ -227,7 +235,7 @@ fn check_task(n: u32, earlier: &[Task], task: &Task) -> Result<(), SheetRefusal>
         },
     )?;
     holds(
-        -MOST_POINT <= task.point && task.point <= MOST_POINT,
+        is_priority_point(task.point),
         SheetRefusal::Range {
             place,
             field: Field::Point,

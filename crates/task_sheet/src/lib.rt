@@ -6,7 +6,7 @@ mod refusal;
 mod sheet;
 mod tasks;
 
-pub use checking::{MOST_JITTER, check_cut, check_supply, is_name};
+pub use checking::{MOST_JITTER, MOST_POINT, check_cut, check_supply, is_name, is_priority_point};
 pub use refusal::{Field, Place, SheetRefusal};
 pub use sheet::Sheet;
 pub use tasks::{Cut, Job, PolicyKind, SupplySpec, Task};

@@ -134,7 +134,9 @@ task = [{ name = 'a', cost = 1, deadline = 1, priority = 1, jitter = 999999999, 
     (
         POINTS_WITHIN_A_PRIORITY,
         100,
-        Ok("poet-cert 1\ntasks 3\ntask 0 1 1 1\np 0 1\ntask 1 6 4 2\np 0 3\np 2 6\ntask 2 6 6 1\np 0 6\nend\n"),
+        Ok(
+            "poet-cert 1\ntasks 3\ntask 0 1 1 1\np 0 1\ntask 1 6 4 2\np 0 3\np 2 6\ntask 2 6 6 1\np 0 6\nend\n",
+        ),
     ),
 ];
 

@@ -136,7 +136,10 @@ fn no_points(rt: HostRuntime) -> Result<(), Fail> {
 #[test]
 fn points_as_deadlines(rt: HostRuntime) -> Result<(), Fail> {
     let alloc = rt.alloc();
-    let sheet = make_sheet(alloc, &[Draft { point: 4, ..FIRST }, Draft { point: 6, ..SECOND }])?;
+    let sheet = make_sheet(
+        alloc,
+        &[Draft { point: 4, ..FIRST }, Draft { point: 6, ..SECOND }],
+    )?;
     keys_are::<Gel>(&rt, alloc, &sheet, &[only(9), only(11)]);
     rows_are::<Gel>(&rt, &sheet, &EDF);
     Ok(())
@@ -164,9 +167,18 @@ fn points_within_a_priority(rt: HostRuntime) -> Result<(), Fail> {
     let urgent = Draft { name: "c", ..FIRST };
     let sheet = make_sheet(alloc, &[early, late, urgent])?;
     let keys = [
-        Key { high: 999_999_999, low: 9 },
-        Key { high: 999_999_999, low: 11 },
-        Key { high: 999_999_998, low: 5 },
+        Key {
+            high: 999_999_999,
+            low: 9,
+        },
+        Key {
+            high: 999_999_999,
+            low: 11,
+        },
+        Key {
+            high: 999_999_998,
+            low: 5,
+        },
     ];
     keys_are::<Elf>(&rt, alloc, &sheet, &keys);
     rows_are::<Elf>(&rt, &sheet, &ELF);
@@ -180,7 +192,13 @@ fn word_of<P: Policy>() -> &'static str {
 /// The policy of each kind is the one that its word names.
 #[test]
 fn the_choice(rt: HostRuntime) {
-    for kind in [PolicyKind::Fp, PolicyKind::Edf, PolicyKind::Fifo, PolicyKind::Gel, PolicyKind::Elf] {
+    for kind in [
+        PolicyKind::Fp,
+        PolicyKind::Edf,
+        PolicyKind::Fifo,
+        PolicyKind::Gel,
+        PolicyKind::Elf,
+    ] {
         assert_eq!(rt; by_policy!(kind => word_of::<_>()), kind.word());
     }
 }

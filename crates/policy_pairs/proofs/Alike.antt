@@ -49,12 +49,12 @@ module _ (p q : PolicyMeaning) (m : CutMeaning) (one other : PolicyKind) (supply
   pub others_same : (a x : ℕ) → others_of p (parts_of one supply tasks) i a x ≡ others_of q (parts_of other supply tasks) i a x
   unfolding others_of
   others_same a x = sum_same (other_of p (parts_of one supply tasks) i a x) (other_of q (parts_of other supply tasks) i a x) (length tasks)
-    (λ o b. but_itself o i 0 _ _ (λ ne. ap (λ (w : Cap). (task_at (parts_of one supply tasks) o).cost * capped_count (task_at (parts_of one supply tasks) o).curve (task_at (parts_of one supply tasks) o).jitter w x) (same.cap i o a here b ne)))
+      (λ o b. but_itself o i 0 _ _ (λ ne. ap (λ (w : Cap). (task_at (parts_of one supply tasks) o).cost * capped_count (task_at (parts_of one supply tasks) o).curve (task_at (parts_of one supply tasks) o).jitter w x) (same.cap i o a here b ne)))
 
   pub blocking_same : (a : ℕ) → blocking_of p m (parts_of one supply tasks) i a ≡ blocking_of q m (parts_of other supply tasks) i a
   unfolding blocking_of
   blocking_same a = max_same (block_of p m (parts_of one supply tasks) i a) (block_of q m (parts_of other supply tasks) i a) (length tasks)
-    (λ o b. ap (λ (w : Bool). cond w (m.longest (task_at (parts_of one supply tasks) o) - 1) 0) (others_only o i _ _ (λ ne. same.may_block i o a here b ne)))
+      (λ o b. ap (λ (w : Bool). cond w (m.longest (task_at (parts_of one supply tasks) o) - 1) 0) (others_only o i _ _ (λ ne. same.may_block i o a here b ne)))
 
   own_same : (a : ℕ) → own_of m (parts_of one supply tasks) i a ≡ own_of m (parts_of other supply tasks) i a
   unfolding own_of
@@ -66,7 +66,7 @@ module _ (p q : PolicyMeaning) (m : CutMeaning) (one other : PolicyKind) (supply
 
   delays_same : max_below (delay_of p m (parts_of one supply tasks) i) (length tasks) ≡ max_below (delay_of q m (parts_of other supply tasks) i) (length tasks)
   delays_same = max_same _ _ (length tasks)
-    (λ o b. ap (λ (w : Bool). cond w (m.longest (task_at (parts_of one supply tasks) o) - 1) 0) (others_only o i _ _ (λ ne. same.may_delay i o here b ne)))
+      (λ o b. ap (λ (w : Bool). cond w (m.longest (task_at (parts_of one supply tasks) o) - 1) 0) (others_only o i _ _ (λ ne. same.may_delay i o here b ne)))
 
   pub window_need_same : (l : ℕ) → window_need_of p m (parts_of one supply tasks) i l ≡ window_need_of q m (parts_of other supply tasks) i l
   unfolding window_need_of

@@ -44,7 +44,7 @@ module _ (p q : PolicyMeaning) (m : CutMeaning) (sbf : ℕ → ℕ) (one other :
         ends ∙ ap (map (λ a. point_of a (or_zero (least_to (meets_end q m sbf (parts_of other supply tasks) i a) window)))) (points_same p q m one other supply tasks same i here window)
 
     -- the entry of these points
-    entry_of : ℕ → List Point → Option ℕ → Entry
+    abbrev entry_of : ℕ → List Point → Option ℕ → Entry
     entry_of window points bound = record { window = window; bound = or_zero bound; points = points }
 
     best_entry_same : (window : ℕ) → best_of_window p m sbf (parts_of one supply tasks) i window ≡ best_of_window q m sbf (parts_of other supply tasks) i window

@@ -1,7 +1,7 @@
 -- The pairs of policies that say the same of some sheets.
 use Rattle.std.proofs.Common.{◌≡◌, ◌≢◌, ℕ, ℤ, ◌+◌, ◌<◌, ◌≤◌, ◌&&◌, nat_le, nat_lt, Bool, true, false, cond, length, refl, sym, ap, subst, ◌∙◌, inl, inr, arith, pos, ◌+ℤ◌, ◌-ℤ◌, int_lt}
 use Rattle.std.proofs.lemmas.Int.{ints}
-use Rattle.std.proofs.lemmas.Bool.{cases_Bool, cases_order, le-leb, lt-ltb}
+use Rattle.std.proofs.lemmas.Bool.{cases_Bool, cases_order, le-leb, lt-ltb, ltb-true}
 use Rattle.std.proofs.lemmas.Bool.Decides.{nat_tests}
 use Rattle.task_sheet.specs.declared.tasks.PolicyKind.{PolicyKind}
 use Rattle.task_sheet.specs.declared.tasks.PolicyKind.TheVariants.{Fp, Edf, Fifo, Gel, Elf}
@@ -53,7 +53,7 @@ gel_edf m sbf s t differ deadlines = judged_alike m sbf Gel Edf s t differ (reco
   cap = λ i o a b c ne. ap At (cap_by_deadlines a (task_at s o).jitter (task_at s i).deadline (task_at s o).deadline (task_at s i).point (task_at s o).point (deadlines i b) (deadlines o c));
   may_block = λ i o a b c ne. block_by_deadlines a (task_at s i).jitter (task_at s i).deadline (task_at s o).deadline (task_at s i).point (task_at s o).point (deadlines i b) (deadlines o c);
   may_delay = λ i o b c ne. ap (λ (w : Bool). w && nat_lt 0 ((task_at s i).jitter + (task_at s o).jitter))
-    (delay_by_deadlines (task_at s i).jitter (task_at s i).deadline (task_at s o).deadline (task_at s i).point (task_at s o).point (deadlines i b) (deadlines o c));
+      (delay_by_deadlines (task_at s i).jitter (task_at s i).deadline (task_at s o).deadline (task_at s i).point (task_at s o).point (deadlines i b) (deadlines o c));
 })
 
 cap_by_arrivals : (n : ℕ) (u v : ℤ) → u ≡ v → ((pos n +ℤ u) -ℤ v) ≡ pos n
@@ -63,8 +63,10 @@ block_by_arrivals : (a jitter : ℕ) (u v : ℤ) → u ≡ v → int_lt (u +ℤ 
 block_by_arrivals a jitter u v e = same_test _ _ (λ h. lt-ltb _ _ (grind (arith, ints))) (λ h. grind (arith, ints, nat_tests))
 
 some_jitter : (own other : ℕ) → (nat_lt 0 own && nat_lt 0 (own + other)) ≡ nat_lt 0 own
-some_jitter zero other = refl
-some_jitter (suc own) other = refl
+some_jitter own other = elim (cases_Bool (nat_lt 0 own)) [
+  | inl t ↦ rw (t, lt-ltb 0 (own + other) (omega (arith, ltb-true 0 own t))) refl
+  | inr f ↦ rw f refl
+]
 
 delay_by_arrivals : (own other : ℕ) (u v : ℤ) → u ≡ v → (int_lt u (v +ℤ pos own) && nat_lt 0 (own + other)) ≡ nat_lt 0 own
 delay_by_arrivals own other u v e =

@@ -119,15 +119,17 @@ fn each_task_rule(rt: HostRuntime) -> Result<(), Fail> {
     Ok(())
 }
 
-/// A jitter may be up to 10^9, and no priority point is allowed.
+/// A jitter may be up to 10^9, and a priority point so far from 0.
 #[test]
 fn jitters_and_points(rt: HostRuntime) -> Result<(), Fail> {
     for (jitter, point, wrong) in [
         (1_000_000_000, 0, None),
         (1_000_000_001, 0, Some(Field::Jitter)),
-        (0, 1, Some(Field::Point)),
-        (0, -1, Some(Field::Point)),
-        (1_000_000_001, 1, Some(Field::Jitter)),
+        (0, 1_000_000_000, None),
+        (0, -1_000_000_000, None),
+        (0, 1_000_000_001, Some(Field::Point)),
+        (0, -1_000_000_001, Some(Field::Point)),
+        (1_000_000_001, 1_000_000_001, Some(Field::Jitter)),
     ] {
         let draft = Draft {
             jitter,

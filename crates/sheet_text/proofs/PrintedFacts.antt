@@ -1,4 +1,4 @@
-use Rattle.std.proofs.Common.{◌≡◌, ℕ, ◌<◌, ◌≤◌, ◌^◌, true, zero, suc, List, [], ◌∷◌, length, get_or, map, String, Global, string_bytes, nat_cmp, Ordering, Less, Equal, Greater, refl, arith}
+use Rattle.std.proofs.Common.{◌≡◌, ℕ, ℤ, pos, negsuc, ◌<◌, ◌≤◌, ◌^◌, true, zero, suc, List, [], ◌∷◌, length, get_or, map, String, Global, string_bytes, nat_cmp, Ordering, Less, Equal, Greater, refl, arith}
 use Rattle.std.specs.Ordering.{match_ordering}
 use Rattle.std.specs.Cmp.Lexicographic.{slice_cmp}
 use Rattle.std.specs.String.{string_cmp}
@@ -63,13 +63,17 @@ flat_cut Never = omega arith
 flat_cut (Fixed segments) = omega (arith, flat_numbers segments)
 flat_cut (Floating longest) = omega arith
 
-flat_task : (t : Task) (j : ℕ) → depth (task_data (record t { jitter = j })) ≤ 4
-flat_task t zero = omega (arith, flat_cut t.cut, flat_steps t.curve.steps)
-flat_task t (suc j) = omega (arith, flat_cut t.cut, flat_steps t.curve.steps)
+flat_task : (t : Task) (j : ℕ) (q : ℤ) → depth (task_data (record t { jitter = j; point = q })) ≤ 4
+flat_task t zero (pos zero) = omega (arith, flat_cut t.cut, flat_steps t.curve.steps)
+flat_task t zero (pos (suc q)) = omega (arith, flat_cut t.cut, flat_steps t.curve.steps)
+flat_task t zero (negsuc q) = omega (arith, flat_cut t.cut, flat_steps t.curve.steps)
+flat_task t (suc j) (pos zero) = omega (arith, flat_cut t.cut, flat_steps t.curve.steps)
+flat_task t (suc j) (pos (suc q)) = omega (arith, flat_cut t.cut, flat_steps t.curve.steps)
+flat_task t (suc j) (negsuc q) = omega (arith, flat_cut t.cut, flat_steps t.curve.steps)
 
 flat_tasks : (ts : List Task) → items_depth (items_of (map task_data ts)) ≤ 4
 flat_tasks [] = omega arith
-flat_tasks (t ∷ ts) = omega (arith, flat_tasks ts, flat_task t t.jitter)
+flat_tasks (t ∷ ts) = omega (arith, flat_tasks ts, flat_task t t.jitter t.point)
 
 pub flat_sheet : (p : PolicyKind) (s : SupplySpec) (ts : List Task) → members_depth (sheet_data (record { policy = p; supply = s; tasks = ts })) ≤ 80
 flat_sheet p Whole ts = omega (arith, flat_tasks ts)

@@ -1,15 +1,15 @@
 -- Texts whose sheet, or whose first broken rule, is known.
-use Rattle.std.proofs.Common.{◌≡◌, ℕ, pos, List, [], ◌∷◌, ◌++◌, codes, Ok, Err, refl}
+use Rattle.std.proofs.Common.{◌≡◌, ℕ, pos, negsuc, List, [], ◌∷◌, ◌++◌, codes, Ok, Err, refl}
 use lib.Utf8.{encode}
 use Rattle.std.specs.Str.{is_utf8, chars}
 use Rattle.toml.proofs.OnLiterals.{toml_on_literals}
-use Rattle.task_sheet.specs.declared.tasks.PolicyKind.TheVariants.{Fp, Edf}
+use Rattle.task_sheet.specs.declared.tasks.PolicyKind.TheVariants.{Fp, Edf, Gel}
 use Rattle.task_sheet.specs.declared.tasks.SupplySpec.TheVariants.{Unit as Whole}
 use Rattle.task_sheet.specs.declared.tasks.Cut.TheVariants.{Full, Floating}
 use Rattle.task_sheet.specs.declared.refusal.Place.TheVariants as places
 use Rattle.task_sheet.specs.declared.refusal.Field.TheVariants as fields
 use Rattle.task_sheet.specs.declared.refusal.SheetRefusal.TheVariants.{Text, Missing, Kind, Range, Order, Both, Twice, Sum}
-use Rattle.task_sheet.specs.Rules.{most_jitter}
+use Rattle.task_sheet.specs.Rules.{most_jitter, most_point}
 use Rattle.sheet_text.specs.SupplyRows.{promised_rule}
 use Rattle.curve.specs.Curves.{periodic}
 use Rattle.sheet_text.specs.CurveRows.{curve_rule}
@@ -69,6 +69,19 @@ pub one_late_task : sheet_of_text (codes "policy = \"edf\"\n" ++ task_text (code
     ≡ Ok (record { policy = Edf; supply = Whole; tasks = record { name = codes "a"; cost = 4; deadline = 9; priority = 0; jitter = 3; point = pos 0; curve = periodic 8; cut = Full } ∷ [] })
 unfolding sheet_of_text is_utf8 chars sheet_of tasks_after task_of name_rule most_jitter toml_on_literals
 one_late_task = refl
+
+pub point_too_great : sheet_of_text (codes "policy = \"gel\"\n" ++ task_text (codes "cost = 4\ndeadline = 9\npoint = 1000000001\n")) ≡ Err (Range (places.Task 0) fields.Point)
+unfolding sheet_of_text is_utf8 chars sheet_of tasks_after task_of name_rule most_point toml_on_literals
+point_too_great = refl
+
+pub no_priority : sheet_of_text (codes "policy = \"elf\"\n" ++ task_text (codes "cost = 4\ndeadline = 9\npoint = 1.0\n")) ≡ Err (Missing (places.Task 0) fields.Priority)
+unfolding sheet_of_text is_utf8 chars sheet_of tasks_after task_of name_rule toml_on_literals
+no_priority = refl
+
+pub one_early_point : sheet_of_text (codes "policy = \"gel\"\n" ++ task_text (codes "cost = 4\ndeadline = 9\npoint = -3\nperiod = 8\n"))
+    ≡ Ok (record { policy = Gel; supply = Whole; tasks = record { name = codes "a"; cost = 4; deadline = 9; priority = 0; jitter = 0; point = negsuc 2; curve = periodic 8; cut = Full } ∷ [] })
+unfolding sheet_of_text is_utf8 chars sheet_of tasks_after task_of name_rule most_point toml_on_literals
+one_early_point = refl
 
 pub one_task : sheet_of_text (codes "policy = \"fp\"\n" ++ task_text (codes "cost = 4\ndeadline = 9\npriority = 2\nperiod = 8\npreemption = { floating = 4 }\n"))
     ≡ Ok (record { policy = Fp; supply = Whole; tasks = record { name = codes "a"; cost = 4; deadline = 9; priority = 2; jitter = 0; point = pos 0; curve = periodic 8; cut = Floating 4 } ∷ [] })

@@ -1,5 +1,5 @@
 -- The document that is printed for a sheet.
-use Rattle.std.specs.Prelude.{ℕ, zero, suc, pos, codes, List, map}
+use Rattle.std.specs.Prelude.{ℕ, ℤ, zero, suc, pos, negsuc, codes, List, map}
 use Rattle.std.specs.Ordering.{nat_cmp, match_ordering}
 use Rattle.std.specs.Cmp.Lexicographic.{slice_cmp}
 use Rattle.toml.specs.Data.{Data, string, integer, array, table, no_items, item, Members, no_members, member}
@@ -43,7 +43,13 @@ abbrev pub put_jitter : ℕ → Members → Members
 put_jitter zero ms = ms
 put_jitter (suc n) ms = put (codes "jitter") (number_data (suc n)) ms
 
--- the members of a task, but for its jitter
+-- the members with the priority point, if it is not 0
+abbrev pub put_point : ℤ → Members → Members
+put_point (pos zero) ms = ms
+put_point (pos (suc n)) ms = put (codes "point") (integer (pos (suc n))) ms
+put_point (negsuc n) ms = put (codes "point") (integer (negsuc n)) ms
+
+-- the members of a task, but for its jitter and its priority point
 abbrev pub plain_data : Task → Members
 plain_data t =
     member (codes "cost") (number_data t.cost)
@@ -54,7 +60,7 @@ plain_data t =
     (member (codes "priority") (number_data t.priority) no_members)))))
 
 abbrev pub task_data : Task → Data
-task_data t = table (put_jitter t.jitter (plain_data t))
+task_data t = table (put_point t.point (put_jitter t.jitter (plain_data t)))
 
 abbrev pub promise_data : ℕ → List ℕ → Data
 promise_data horizon times = table (member (codes "horizon") (number_data horizon) (member (codes "times") (array_data number_data times) no_members))

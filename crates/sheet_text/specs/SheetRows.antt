@@ -1,10 +1,10 @@
-use Rattle.std.specs.Prelude.{◌≡◌, ℕ, List, [], ◌∷◌, codes, Option, Some, None, Result, Ok, Err, if◌then◌else◌, bytes_eq}
+use Rattle.std.specs.Prelude.{ℕ, List, [], ◌∷◌, codes, Option, Some, None, Result, Ok, Err, if◌then◌else◌, bytes_eq}
 use Rattle.lists.specs.Limits.{most_tasks}
 use Rattle.toml.specs.Data.{Data, string, array, Items, get}
 use Rattle.toml.specs.Text.{are_tables}
 use Rattle.lists.specs.Ranges.{is_between}
 use Rattle.task_sheet.specs.declared.tasks.PolicyKind.{PolicyKind}
-use Rattle.task_sheet.specs.declared.tasks.PolicyKind.TheVariants.{Fp, Edf, Fifo}
+use Rattle.task_sheet.specs.declared.tasks.PolicyKind.TheVariants.{Fp, Edf, Fifo, Gel, Elf}
 use Rattle.task_sheet.specs.declared.refusal.Place.TheVariants as places
 use Rattle.task_sheet.specs.declared.refusal.Field.TheVariants as fields
 use Rattle.task_sheet.specs.declared.refusal.SheetRefusal.{SheetRefusal}
@@ -26,11 +26,9 @@ policy_named word =
     if bytes_eq word (policy_word Fp) then Some Fp
     else if bytes_eq word (policy_word Edf) then Some Edf
     else if bytes_eq word (policy_word Fifo) then Some Fifo
+    else if bytes_eq word (policy_word Gel) then Some Gel
+    else if bytes_eq word (policy_word Elf) then Some Elf
     else None
-
--- the policies that a sheet's text can name
-abbrev pub IsNamed : PolicyKind → Type 0
-IsNamed policy = policy_named (policy_word policy) ≡ Some policy
 
 -- a policy is a word of these
 abbrev pub policy_rule : Data → Result PolicyKind SheetRefusal

@@ -1,7 +1,7 @@
-use Rattle.std.specs.Prelude.{ℕ, pos, not, List, [], ◌∷◌, ◌++◌, map, length, codes, Option, Some, None, Result, Ok, Err, bytes_eq}
+use Rattle.std.specs.Prelude.{ℕ, ℤ, pos, not, List, [], ◌∷◌, ◌++◌, map, length, codes, Option, Some, None, Result, Ok, Err, if◌then◌else◌, bytes_eq}
 use Rattle.std.specs.List.{list_any}
 use Rattle.lists.specs.Limits.{greatest_number}
-use Rattle.toml.specs.Data.{Data, string, Items, no_items, item, get}
+use Rattle.toml.specs.Data.{Data, string, integer, Items, no_items, item, get}
 use Rattle.task_sheet.specs.declared.tasks.PolicyKind.{PolicyKind}
 use Rattle.task_sheet.specs.declared.tasks.PolicyKind.TheVariants.{Fp, Edf, Fifo, Gel, Elf}
 use Rattle.task_sheet.specs.declared.tasks.Task.{Task}
@@ -11,14 +11,14 @@ use Rattle.task_sheet.specs.declared.refusal.Field.TheVariants as fields
 use Rattle.task_sheet.specs.declared.refusal.SheetRefusal.{SheetRefusal}
 use Rattle.task_sheet.specs.declared.refusal.SheetRefusal.TheVariants.{Missing, Kind, Range, Twice}
 use Rattle.task_sheet.specs.Refusing.{◌>>=◌, holds}
-use Rattle.task_sheet.specs.Rules.{is_name, most_jitter}
+use Rattle.task_sheet.specs.Rules.{is_name, is_priority_point, most_jitter}
 use Rattle.sheet_text.specs.Documents.{keys_rule, needed_rule, whole_rule, positive_rule}
 use Rattle.sheet_text.specs.CurveRows.{arrivals_rule}
 use Rattle.sheet_text.specs.CutRows.{preemption_rule}
 
 -- the keys of a task
 abbrev pub task_keys : List (List ℕ)
-task_keys = codes "name" ∷ codes "cost" ∷ codes "deadline" ∷ codes "priority" ∷ codes "jitter" ∷ codes "period" ∷ codes "curve" ∷ codes "preemption" ∷ []
+task_keys = codes "name" ∷ codes "cost" ∷ codes "deadline" ∷ codes "priority" ∷ codes "jitter" ∷ codes "point" ∷ codes "period" ∷ codes "curve" ∷ codes "preemption" ∷ []
 
 -- a name that no task before has
 unfoldable pub name_rule : ℕ → List (List ℕ) → Data → Result (List ℕ) SheetRefusal
@@ -46,7 +46,17 @@ abbrev pub jitter_rule : Place → Option Data → Result ℕ SheetRefusal
 jitter_rule place (Some d) = whole_rule place fields.Jitter 0 most_jitter d
 jitter_rule place None = Ok 0
 
--- task n, after tasks of these names; no task has a priority point
+-- an integer that a priority point may be
+abbrev pub said_point : Place → Data → Result ℤ SheetRefusal
+said_point place (integer q) = if is_priority_point q then Ok q else Err (Range place fields.Point)
+said_point place _ = Err (Kind place fields.Point)
+
+-- a priority point, which is 0 where nothing is said
+abbrev pub point_rule : Place → Option Data → Result ℤ SheetRefusal
+point_rule place (Some d) = said_point place d
+point_rule place None = Ok (pos 0)
+
+-- task n, after tasks of these names
 unfoldable pub task_of : PolicyKind → ℕ → List (List ℕ) → Data → Result Task SheetRefusal
 task_of policy n names d = do
   known ← keys_rule task_keys (places.Task n) d
@@ -56,9 +66,10 @@ task_of policy n names d = do
   its_deadline ← positive_rule (codes "deadline") (places.Task n) fields.Deadline d
   its_priority ← priority_rule policy (places.Task n) (get (codes "priority") d)
   its_jitter ← jitter_rule (places.Task n) (get (codes "jitter") d)
+  its_point ← point_rule (places.Task n) (get (codes "point") d)
   its_curve ← arrivals_rule n (get (codes "period") d) (get (codes "curve") d)
   its_cut ← preemption_rule n its_cost (get (codes "preemption") d)
-  Ok (record { name = its_name; cost = its_cost; deadline = its_deadline; priority = its_priority; jitter = its_jitter; point = pos 0; curve = its_curve; cut = its_cut })
+  Ok (record { name = its_name; cost = its_cost; deadline = its_deadline; priority = its_priority; jitter = its_jitter; point = its_point; curve = its_curve; cut = its_cut })
 
 -- the names of some tasks
 abbrev pub names_of : List Task → List (List ℕ)

@@ -7,9 +7,9 @@ ghost use Rattle.toml.specs.View.{view, table_view};
 ghost use Rattle.curve.specs.Validity.{is_step};
 ghost use Rattle.task_sheet.specs.Rules.{are_in_range};
 ghost use Rattle.task_sheet.specs.Sheets.{IsPromise, IsTask, IsValidSheet};
-ghost use Rattle.sheet_text.specs.Printed.{put as put_of, put_jitter as put_jitter_of, array_data, number_data, step_data, curve_data, cut_data, plain_data, task_data, promise_data, put_promise as put_promise_of, sheet_data};
+ghost use Rattle.sheet_text.specs.Printed.{put as put_of, put_jitter as put_jitter_of, put_point as put_point_of, array_data, number_data, step_data, curve_data, cut_data, plain_data, task_data, promise_data, put_promise as put_promise_of, sheet_data};
 ghost use Rattle.sheet_text.specs.Documents.{document_of};
-ghost use Rattle.sheet_text.specs.SheetRows.{sheet_of_text, IsNamed};
+ghost use Rattle.sheet_text.specs.SheetRows.{sheet_of_text};
 
 use curve::{Prefix, Step};
 use std::alloc::{AllocError, Global};
@@ -128,12 +128,23 @@ fn put_jitter(alloc: Global, table: &mut Table, jitter: u64) -> Result<(), Alloc
     }
 }
 
+/// The priority point, if it is not 0.
+fn put_point(alloc: Global, table: &mut Table, point: i64) -> Result<(), AllocError>
+    ensures { OnOk result (table_view table.new ≡ put_point_of point (table_view table.old)) }
+{
+    match point {
+        0 => Ok(()),
+        _ => put(alloc, table, "point", Value::Integer(point)),
+    }
+}
+
 fn task_value(alloc: Global, task: &Task) -> Result<Value, AllocError>
     requires { IsTask task.now }
     ensures { IfOk result (λ v. view v ≡ task_data task.now) }
 {
     let mut table = plain_table(alloc, task)?;
     put_jitter(alloc, &mut table, task.jitter)?;
+    put_point(alloc, &mut table, task.point)?;
     Ok(Value::Table(table))
 }
 
@@ -191,12 +202,11 @@ fn sheet_table(alloc: Global, sheet: &Sheet) -> Result<Table, AllocError>
     Ok(table)
 }
 
-/// The text of a sheet: a TOML document that [`read_sheet`](crate::read_sheet) reads as that sheet,
-/// where a text can name its policy.
+/// The text of a sheet: a TOML document that [`read_sheet`](crate::read_sheet) reads as that sheet.
 ///
 /// Keys stand in the order of their bytes. A period is printed as the curve that it means.
 pub fn print_sheet(alloc: Global, sheet: &Sheet) -> Result<Vec<u8>, AllocError>
-    ensures reads { IfOk result (λ text. IsNamed sheet.now.policy → sheet_of_text text.items ≡ Ok sheet.now) }
+    ensures reads { IfOk result (λ text. sheet_of_text text.items ≡ Ok sheet.now) }
     ensures document { IfOk result (λ text. document_of text.items ≡
         Some (table (sheet_data sheet.now))) }
 {

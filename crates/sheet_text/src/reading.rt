@@ -25,6 +25,10 @@ fn policy_named(word: &str) -> Option<PolicyKind>
         Some(PolicyKind::Edf)
     } else if word == PolicyKind::Fifo.word() {
         Some(PolicyKind::Fifo)
+    } else if word == PolicyKind::Gel.word() {
+        Some(PolicyKind::Gel)
+    } else if word == PolicyKind::Elf.word() {
+        Some(PolicyKind::Elf)
     } else {
         None
     }

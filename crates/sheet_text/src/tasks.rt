@@ -2,15 +2,15 @@
 ghost use Rattle.std.specs.Prelude.{◌≡◌, ◌≤◌, ◌<◌, ◌∷◌, ◌++◌, [], ℕ, true, false, map, length, string_bytes, bytes_eq, codes, Ok, IfOk, slice_index_or};
 ghost use Rattle.std.specs.List.{list_any};
 ghost use Rattle.lists.specs.Limits.{greatest_number, most_tasks};
-ghost use Rattle.toml.specs.Data.{string, get};
+ghost use Rattle.toml.specs.Data.{string, integer, get};
 ghost use Rattle.toml.specs.View.{view, items_view};
 ghost use Rattle.curve.specs.Validity.{IsCurve};
 ghost use Rattle.lists.specs.Ranges.{is_between};
-ghost use Rattle.task_sheet.specs.Rules.{is_name as is_name_of, most_jitter, task_rule, tasks_rule};
+ghost use Rattle.task_sheet.specs.Rules.{is_name as is_name_of, is_priority_point as is_priority_point_of, most_jitter, task_rule, tasks_rule};
 ghost use Rattle.task_sheet.specs.Sheets.{no_task};
 ghost use Rattle.sheet_text.specs.Readings.{ReadsAs};
 ghost use Rattle.sheet_text.specs.Documents.{whole_rule};
-ghost use Rattle.sheet_text.specs.TaskRows.{name_rule, unsaid_priority as unsaid_of, priority_rule, jitter_rule, task_of as task_of_value, tasks_after};
+ghost use Rattle.sheet_text.specs.TaskRows.{name_rule, unsaid_priority as unsaid_of, priority_rule, jitter_rule, said_point as said_point_of, point_rule, task_of as task_of_value, tasks_after};
 
 use crate::arrivals::arrivals;
 use crate::cuts::preemption;
@@ -20,15 +20,18 @@ use indexmap::IndexSet;
 use lists::Text;
 use lists::limits::GREATEST_NUMBER;
 use std::alloc::Global;
-use task_sheet::{Field, MOST_JITTER, Place, PolicyKind, SheetRefusal, Task, is_name};
+use task_sheet::{
+    Field, MOST_JITTER, Place, PolicyKind, SheetRefusal, Task, is_name, is_priority_point,
+};
 use toml::Value;
 
-const TASK_KEYS: [&str; 8] = [
+const TASK_KEYS: [&str; 9] = [
     "name",
     "cost",
     "deadline",
     "priority",
     "jitter",
+    "point",
     "period",
     "curve",
     "preemption",
@@ -137,6 +140,45 @@ fn jitter_of(place: Place, task: &Value) -> Result<u64, SheetRefusal>
     }
 }
 
+fn point_in_range(place: Place, point: i64) -> Result<i64, SheetRefusal>
+    ensures gives { result ≡ said_point_of place (integer point) }
+    ensures within { IfOk result (λ q. is_priority_point_of q ≡ true) }
+{
+    if is_priority_point(point) {
+        Ok(point)
+    } else {
+        Err(SheetRefusal::Range {
+            place,
+            field: Field::Point,
+        })
+    }
+}
+
+fn said_point(place: Place, value: &Value) -> Result<i64, SheetRefusal>
+    ensures gives { result ≡ said_point_of place (view value.now) }
+    ensures within { IfOk result (λ q. is_priority_point_of q ≡ true) }
+{
+    match value {
+        Value::Integer(point) => point_in_range(place, *point),
+        _ => Err(SheetRefusal::Kind {
+            place,
+            field: Field::Point,
+        }),
+    }
+}
+
+/// The priority point of a task, which is 0 where it says none.
+#[tactic(auto, using(task_sheet::specs::Limits::no_point))]
+fn point_of(place: Place, task: &Value) -> Result<i64, SheetRefusal>
+    ensures gives { result ≡ point_rule place (get (codes "point") (view task.now)) }
+    ensures within { IfOk result (λ q. is_priority_point_of q ≡ true) }
+{
+    match task.get("point") {
+        Some(point) => said_point(place, point),
+        None => Ok(0),
+    }
+}
+
 /// Task `n`, after tasks of these names.
 #[tactic(auto, unfolding(crate::specs::TaskRows::task_of))]
 fn task_of(
@@ -165,6 +207,7 @@ fn task_of(
     let deadline = positive(value, "deadline", place, Field::Deadline)?;
     let priority = priority_of(policy, place, value)?;
     let jitter = jitter_of(place, value)?;
+    let point = point_of(place, value)?;
     let curve = arrivals(alloc, n, value)?;
     let cut = preemption(alloc, n, cost, value)?;
     Ok(Task {
@@ -173,7 +216,7 @@ fn task_of(
         deadline,
         priority,
         jitter,
-        point: 0,
+        point,
         curve,
         cut,
     })

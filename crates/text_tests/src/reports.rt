@@ -41,6 +41,33 @@ const LONG_NAMES: Case = (
         {\"bound\":8,\"cost\":3,\"deadline\":7,\"met\":false,\"name\":\"q\\\"\\\\\",\"points\":1,\"window\":9}]}\n",
 );
 
+const ONE_ENTRY: &[u8] = b"poet-cert 1\ntasks 1\ntask 0 1 1 1\np 0 1\nend\n";
+
+/// Sheets of one task, and how their reports as JSON begin.
+const BY_POINTS: [(&[u8], &[u8]); 2] = [
+    (
+        b"policy = 'gel'\ntask = [{ name = 'a', cost = 1, deadline = 4, period = 4, point = -4 }]\n",
+        b"{\"missed\":0,\"policy\":\"gel\",\"tasks\":[{",
+    ),
+    (
+        b"policy = 'elf'\ntask = [{ name = 'a', cost = 1, deadline = 4, period = 4, priority = 1 }]\n",
+        b"{\"missed\":0,\"policy\":\"elf\",\"tasks\":[{",
+    ),
+];
+
+#[test]
+fn reports_name_policies_by_points(rt: HostRuntime) -> Result<(), Fail> {
+    let alloc = rt.alloc();
+    for (sheet, front) in BY_POINTS {
+        let sheet = read_sheet(alloc, sheet)?;
+        let cert = read_cert(alloc, ONE_ENTRY)?;
+        assert_eq!(rt; cert.entries.len(), sheet.len() as usize);
+        let object = json_report(alloc, &sheet, &cert)?;
+        assert!(rt; object.as_slice().starts_with(front));
+    }
+    Ok(())
+}
+
 #[test]
 fn reports_have_these_bytes(rt: HostRuntime) -> Result<(), Fail> {
     let alloc = rt.alloc();

@@ -2,10 +2,10 @@
 use sheet_text::{print_sheet, read_sheet};
 use std::alloc::{AllocError, Global};
 use std::test::Fail;
-use task_sheet::{Field, Place, SheetRefusal};
+use task_sheet::{Field, Place, PolicyKind, SheetRefusal};
 
 /// Texts with the first rule that each breaks.
-const REFUSED: [(&[u8], SheetRefusal); 17] = [
+const REFUSED: [(&[u8], SheetRefusal); 23] = [
     (
         b"",
         SheetRefusal::Missing {
@@ -94,6 +94,48 @@ const REFUSED: [(&[u8], SheetRefusal); 17] = [
         },
     ),
     (
+        b"policy = \"gel\"\n[[task]]\nname = \"a\"\ncost = 2\ndeadline = 9\npoint = 1.0\n",
+        SheetRefusal::Kind {
+            place: Place::Task(0),
+            field: Field::Point,
+        },
+    ),
+    (
+        b"policy = \"gel\"\n[[task]]\nname = \"a\"\ncost = 2\ndeadline = 9\npoint = 1000000001\n",
+        SheetRefusal::Range {
+            place: Place::Task(0),
+            field: Field::Point,
+        },
+    ),
+    (
+        b"policy = \"edf\"\n[[task]]\nname = \"a\"\ncost = 2\ndeadline = 9\npoint = -1000000001\n",
+        SheetRefusal::Range {
+            place: Place::Task(0),
+            field: Field::Point,
+        },
+    ),
+    (
+        b"policy = \"gel\"\n[[task]]\nname = \"a\"\ncost = 2\ndeadline = 9\npoint = 1.0\njitter = -1\n",
+        SheetRefusal::Range {
+            place: Place::Task(0),
+            field: Field::Jitter,
+        },
+    ),
+    (
+        b"policy = \"gel\"\n[[task]]\nname = \"a\"\ncost = 2\ndeadline = 9\npoint = -1000000000\n",
+        SheetRefusal::Missing {
+            place: Place::Task(0),
+            field: Field::Curve,
+        },
+    ),
+    (
+        b"policy = \"elf\"\n[[task]]\nname = \"a\"\ncost = 2\ndeadline = 9\npoint = 1.0\n",
+        SheetRefusal::Missing {
+            place: Place::Task(0),
+            field: Field::Priority,
+        },
+    ),
+    (
         b"policy = \"edf\"\n[[task]]\nname = \"a\"\ncost = 2\ndeadline = 9\n\
         curve = { horizon = 5, steps = [[0, 1]] }\n",
         SheetRefusal::Range {
@@ -114,11 +156,12 @@ const REFUSED: [(&[u8], SheetRefusal); 17] = [
     (b"\xFF", SheetRefusal::Text),
 ];
 
-/// One sheet: with CR LF, with a mark of the byte order, and in line.
-const SPELLINGS: [&[u8]; 3] = [
+/// One sheet: with CR LF, with a mark of the byte order, in line, and with a point of 0.
+const SPELLINGS: [&[u8]; 4] = [
     b"policy = \"edf\"\r\n[[task]]\r\nname = \"a\"\r\ncost = 1\r\ndeadline = 4\r\nperiod = 4\r\n",
     b"\xEF\xBB\xBFpolicy = \"edf\"\n[[task]]\nname = \"a\"\ncost = 1\ndeadline = 4\nperiod = 4\n",
     b"policy = \"edf\"\ntask = [{ name = \"a\", cost = 1, deadline = 4, period = 4 }]",
+    b"policy = \"gel\"\ntask = [{ name = \"a\", cost = 1, deadline = 4, period = 4, point = -0 }]",
 ];
 
 const TWO_TASKS: &[u8] = b"policy = \"fp\"\n
@@ -130,14 +173,14 @@ const FIRST_PRINTED: &[u8] = b"policy = \"fp\"\n
 [task.curve]\nhorizon = 4\nsteps = [[1, 1]]\n
 [[task]]\ncost = 2\n";
 
-const EVERY_FORM: &[u8] = b"policy = \"edf\"\n
+const EVERY_FORM: &[u8] = b"policy = \"elf\"\n
 [supply]\nhorizon = 4\ntimes = [3, 4]\n
-[[task]]\ncost = 3\ndeadline = 9\njitter = 1000000000\nname = \"x'y\"\npreemption = \"never\"\npriority = 0\n
+[[task]]\ncost = 3\ndeadline = 9\njitter = 1000000000\nname = \"x'y\"\npoint = -1000000000\npreemption = \"never\"\npriority = 0\n
 [task.curve]\nhorizon = 50\nsteps = [[1, 2], [25, 4]]\n
 [[task]]\ncost = 3\ndeadline = 9\njitter = 1\nname = \"y\"\npriority = 0\n
 [task.curve]\nhorizon = 9\nsteps = [[1, 1]]\n
 [task.preemption]\nfixed = [1, 2]\n
-[[task]]\ncost = 3\ndeadline = 9\nname = \"z\"\npriority = 1000000000\n
+[[task]]\ncost = 3\ndeadline = 9\nname = \"z\"\npoint = 1\npriority = 1000000000\n
 [task.curve]\nhorizon = 9\nsteps = [[1, 1]]\n
 [task.preemption]\nfloating = 3\n";
 
@@ -193,6 +236,7 @@ fn reads_other_spellings(rt: HostRuntime) -> Result<(), Fail> {
     for text in SPELLINGS {
         let sheet = read_sheet(rt.alloc(), text)?;
         assert_eq!(rt; sheet.len(), 1);
+        assert_eq!(rt; sheet.task(0).point, 0);
     }
     Ok(())
 }
@@ -217,5 +261,9 @@ fn prints_every_form(rt: HostRuntime) -> Result<(), Fail> {
     assert_eq!(rt; sheet.len(), 3);
     assert_eq!(rt; sheet.task(0).jitter, 1_000_000_000);
     assert_eq!(rt; sheet.task(2).jitter, 0);
+    assert_eq!(rt; sheet.policy(), PolicyKind::Elf);
+    assert_eq!(rt; sheet.task(0).point, -1_000_000_000);
+    assert_eq!(rt; sheet.task(1).point, 0);
+    assert_eq!(rt; sheet.task(2).point, 1);
     Ok(())
 }

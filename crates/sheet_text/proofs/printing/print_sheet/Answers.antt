@@ -23,7 +23,7 @@ returns-in-Ok-clause-document c =
 
 pub returns-in-Ok-clause-reads : goal.returns-in-Ok-clause-reads
 unfolding sheet_of_text
-returns-in-Ok-clause-reads c named =
+returns-in-Ok-clause-reads c =
     let s = c.args.sheet.now in
     let document : document_of c.into_bytes.result.items ≡ Some (table (sheet_data s)) = returns-in-Ok-clause-document c in
-    rw document (sheet_again s c.in_ok-table.ensures.valid named)
+    rw document (sheet_again s c.in_ok-table.ensures.valid)

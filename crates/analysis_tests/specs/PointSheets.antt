@@ -1,4 +1,4 @@
--- Sheets with priority points, which no text of a sheet can say yet, and their best certificates.
+-- Sheets with priority points, and their best certificates.
 use Rattle.std.specs.Prelude.{ℕ, ℤ, pos, codes, List, [], ◌∷◌, Result}
 use Rattle.curve.specs.Curves.{periodic}
 use Rattle.task_sheet.specs.declared.tasks.PolicyKind.TheVariants.{Gel, Elf}

@@ -1,7 +1,10 @@
 //! Worked sheets with their best certificates, and the refusals.
 ghost use Rattle.std.specs.Prelude.{◌≤◌, ◌<◌, length};
 
-use crate::sheets::{EIGHT_TASKS, JITTER, JITTER_BLOCKING, JITTER_POINTS, TWO_DEADLINES, sheet_of};
+use crate::sheets::{
+    EIGHT_TASKS, JITTER, JITTER_BLOCKING, JITTER_POINTS, POINTS_AS_DEADLINES,
+    POINTS_WITHIN_A_PRIORITY, TWO_DEADLINES, sheet_of,
+};
 use certificate::{Cert, read_cert};
 use policy::Fp;
 use policy_more::by_policy;
@@ -36,7 +39,7 @@ end
 /// A sheet, a horizon, and the text of its best certificate, or the cause why there is none.
 type Row = (&'static str, u64, Result<&'static str, AnalyseRefusal>);
 
-const BEST: [Row; 14] = [
+const BEST: [Row; 16] = [
     (
         "policy = 'fp'
 task = [{ name = 'a', cost = 2, deadline = 5, priority = 1, period = 5 }]",
@@ -122,6 +125,18 @@ task = [{ name = 'a', cost = 2, deadline = 10, priority = 1, period = 10, preemp
 task = [{ name = 'a', cost = 1, deadline = 1, priority = 1, jitter = 999999999, period = 1000000000 }]",
         1_000_000_000,
         Ok("poet-cert 1\ntasks 1\ntask 0 1 1000000000 1\np 0 1\nend\n"),
+    ),
+    (
+        POINTS_AS_DEADLINES,
+        100,
+        Ok("poet-cert 1\ntasks 2\ntask 0 4 2 2\np 0 2\np 2 4\ntask 1 4 4 2\np 0 4\np 2 4\nend\n"),
+    ),
+    (
+        POINTS_WITHIN_A_PRIORITY,
+        100,
+        Ok(
+            "poet-cert 1\ntasks 3\ntask 0 1 1 1\np 0 1\ntask 1 6 4 2\np 0 3\np 2 6\ntask 2 6 6 1\np 0 6\nend\n",
+        ),
     ),
 ];
 

@@ -5,6 +5,8 @@ use cert_check::accepted_is_sound;
 use conditions::failed_means;
 use demand::{demand_grows, need_fits};
 use policy::{Edf, Fp};
+use policy_more::{Elf, Gel};
+use policy_pairs::{elf_is_fp, elf_is_gel, gel_is_edf, gel_is_fifo};
 use preemption::{FullCut, PerTask};
 use schedule_laws::{crowds_decide, tests_decide};
 use search_space::{across_gap, between_points};
@@ -28,4 +30,10 @@ fn laws_at_kinds() {
     failed_means::<Fp, PerTask, Unit>();
     accepted_is_sound::<Fp, PerTask, Unit>();
     analysis_has_one_answer::<Fp, PerTask, Unit>();
+    points_bound::<Gel, PerTask, Unit>();
+    accepted_is_sound::<Elf, PerTask, Unit>();
+    gel_is_edf::<PerTask, Unit>();
+    gel_is_fifo::<FullCut, Unit>();
+    elf_is_gel::<PerTask, Unit>();
+    elf_is_fp::<FullCut, Unit>();
 }

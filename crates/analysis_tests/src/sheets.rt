@@ -30,6 +30,23 @@ task = [
     { name = 'v', cost = 3, deadline = 10, period = 10, preemption = 'never' },
 ]";
 
+/// The points are the deadlines.
+pub const POINTS_AS_DEADLINES: &str = "
+policy = 'gel'
+task = [
+    { name = 'a', cost = 2, deadline = 4, point = 4, period = 4 },
+    { name = 'b', cost = 2, deadline = 6, point = 6, period = 6 },
+]";
+
+/// Of two tasks of the smaller priority, `b` has the earlier point.
+pub const POINTS_WITHIN_A_PRIORITY: &str = "
+policy = 'elf'
+task = [
+    { name = 'a', cost = 1, deadline = 4, priority = 2, period = 4 },
+    { name = 'b', cost = 2, deadline = 8, priority = 1, point = 4, period = 8 },
+    { name = 'c', cost = 2, deadline = 8, priority = 1, point = 6, period = 8 },
+]";
+
 /// Eight tasks, in microseconds; the third comes in bursts of two.
 pub const EIGHT_TASKS: &str = "
 policy = 'fp'

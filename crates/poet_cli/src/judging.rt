@@ -32,7 +32,8 @@ fn verdict(
     ensures judged { IfOk result (IsVerdict (meaning_of sheet.now.policy) per_task_meaning (sbf_of sheet.now.supply) sheet.now deadlines bytes.now) }
     ensures bounded { IfOk result (IsBoundedBy (meaning_of sheet.now.policy) per_task_meaning (sbf_of sheet.now.supply) sheet.now deadlines) }
 {
-    by_policy!(sheet.policy() => check_cert::<_, PerTask, Sheet>(alloc, sheet, sheet, deadlines, bytes))
+    by_policy!(sheet.policy() =>
+        check_cert::<_, PerTask, Sheet>(alloc, sheet, sheet, deadlines, bytes))
 }
 
 /// How `check` ends, over a sheet and the bytes of a certificate.

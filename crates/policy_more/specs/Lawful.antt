@@ -73,13 +73,13 @@ gel_lawful sheet ok = record {
       ];
 }
 
-above : {A : Type 0} (sheet : SheetParts) (i o : ℕ) (x y z : A) → (task_at sheet i).priority < (task_at sheet o).priority → by_priority sheet i o x y z ≡ x
+pub above : {A : Type 0} (sheet : SheetParts) (i o : ℕ) (x y z : A) → (task_at sheet i).priority < (task_at sheet o).priority → by_priority sheet i o x y z ≡ x
 above sheet i o x y z h = grind (arith, nat_tests)
 
-level : {A : Type 0} (sheet : SheetParts) (i o : ℕ) (x y z : A) → (task_at sheet i).priority ≡ (task_at sheet o).priority → by_priority sheet i o x y z ≡ y
+pub level : {A : Type 0} (sheet : SheetParts) (i o : ℕ) (x y z : A) → (task_at sheet i).priority ≡ (task_at sheet o).priority → by_priority sheet i o x y z ≡ y
 level sheet i o x y z h = grind (arith, nat_tests)
 
-below : {A : Type 0} (sheet : SheetParts) (i o : ℕ) (x y z : A) → (task_at sheet o).priority < (task_at sheet i).priority → by_priority sheet i o x y z ≡ z
+pub below : {A : Type 0} (sheet : SheetParts) (i o : ℕ) (x y z : A) → (task_at sheet o).priority < (task_at sheet i).priority → by_priority sheet i o x y z ≡ z
 below sheet i o x y z h = grind (arith, nat_tests)
 
 -- what holds of each of the three, in its case

@@ -1,0 +1,4 @@
+pub mod Alike
+pub mod AlikeConditions
+pub mod AlikeBest
+pub mod Twins

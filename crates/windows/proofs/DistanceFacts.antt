@@ -107,7 +107,7 @@ needed_same spans needed m are p follows = record {
 }
 
 module _ (spans : List ℕ) (needed : List Distance) (m : ℕ) (are : AreNeededBelow spans m needed) (x : Distance) (is_apart : x.apart ≡ m) (is_span : x.span ≡ get_or spans m 0) where
-  more : List Distance
+  abbrev more : List Distance
   more = needed ++ x ∷ []
 
   count : length more ≡ length needed + 1

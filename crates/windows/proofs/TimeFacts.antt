@@ -110,7 +110,7 @@ times_same times needed k are i implied = record {
 }
 
 module _ (times : List ℕ) (needed : List PromisedTime) (k : ℕ) (are : AreNeededTimesBelow times k needed) (x : PromisedTime) (is_before : x.before ≡ k) (is_time : x.time ≡ get_or times k 0) where
-  more : List PromisedTime
+  abbrev more : List PromisedTime
   more = needed ++ x ∷ []
 
   count : length more ≡ length needed + 1

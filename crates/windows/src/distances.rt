@@ -11,7 +11,7 @@ use curve::Prefix;
 use std::alloc::{AllocError, Global};
 
 /// How many distances are tried, at most, to find that one follows from it.
-const TRIED: usize = 64;
+const TRIED: usize = 512;
 
 /// A distance, and the length of the shortest windows in which the curve admits jobs that far apart.
 #[derive(Clone, Copy, Debug, PartialEq, Eq)]

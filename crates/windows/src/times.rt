@@ -9,7 +9,7 @@ use std::alloc::{AllocError, Global};
 use task_sheet::{Sheet, SupplySpec};
 
 /// How many times are tried, at most, to find that one follows from it.
-const TRIED: usize = 64;
+const TRIED: usize = 512;
 
 /// A promised time, and how many promised times are before it.
 #[derive(Clone, Copy, Debug, PartialEq, Eq)]

@@ -21,7 +21,7 @@ none_seen run n seen is =
     }
 
 module _ (run : Run) (k o : ℕ) (seen : List Seen) (r : Option ℕ) (task : (job_at run k).task ≡ o) (b : o < length seen) (response : IsResponse run (length run.ticks) k r) (are : AreSeen run k seen) where
-  after : List Seen
+  abbrev after : List Seen
   after = set seen o (with_response (seen_at seen o) r)
 
   own : seen_at after o ≡ with_response (seen_at seen o) r

@@ -1,7 +1,14 @@
-use Rattle.std.proofs.Common.{◌≡◌, length, subst, arith}
-use Rattle.audit.specs.NotedResponses.{AreSeen}
+use Rattle.std.proofs.Common.{◌≡◌, length, ◌∙◌, ap, subst, arith}
+use Rattle.std.proofs.lemmas.List.{length-replicate}
+use Rattle.audit.specs.NotedResponses.{nothing, AreSeen}
 use Rattle.audit.proofs.SeenFacts.{none_seen, all_seen}
 use Rattle.audit.proofs.responses.seen_tasks.Goals as goal
+
+pub loop-k-init : goal.loop-k-init
+loop-k-init c = record {
+  count = ap length c.in_ok-seen.ensures ∙ length-replicate c.args.count nothing;
+  seen = none_seen c.args.run.now c.args.count c.in_ok-seen.seen.items c.in_ok-seen.ensures;
+}
 
 pub returns : goal.returns
 returns c =

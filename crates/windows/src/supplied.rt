@@ -42,7 +42,11 @@ pub fn off_allowed_by(sheet: &Sheet, needed: &[PromisedTime], counts: &[u64], t:
     requires needed { AreNeededTimes sheet.now.supply needed.now }
     ensures { IsTrue result ↔ MayBeOff (sbf_of sheet.now.supply) counts.now t }
 {
-    let SupplySpec::Promised { horizon: _, times: _ } = sheet.supply() else {
+    let SupplySpec::Promised {
+        horizon: _,
+        times: _,
+    } = sheet.supply()
+    else {
         return false;
     };
     let last = counts[t as usize];

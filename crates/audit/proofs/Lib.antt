@@ -3,6 +3,7 @@ pub mod FaultFacts
 pub mod VerdictFacts
 pub mod ServedFacts
 pub mod ResponseFacts
+pub mod SeenFacts
 pub mod ReadFacts
 pub mod OrderFacts
 pub mod ReleaseFacts

@@ -1,8 +1,9 @@
 //! What is seen of each task in a run that complies.
 ghost use Rattle.std.specs.Prelude.{◌≡◌, ◌+◌, ◌<◌, ◌^◌, IfOk, None, length, replicate};
-ghost use Rattle.audit.specs.Responses.{seen_of, seen_below};
+ghost use Rattle.audit.specs.Responses.{seen_below};
 ghost use Rattle.audit.specs.Premises.{IsSmall, AreReleased, ArePositive, AreValid};
-ghost use Rattle.audit.specs.NotedResponses.{AreResponses, with_response};
+ghost use Rattle.audit.specs.NotedResponses.{AreResponses, AreSeen, with_response, nothing};
+ghost use Rattle.audit.specs.UndoneJobs.{AreBelow};
 ghost use Rattle.audit.specs.ServiceCounts.{IsServed};
 
 use crate::service_counts::{no_service, serve};
@@ -72,37 +73,45 @@ impl Seen {
     }
 }
 
-/// What is seen of task `i`.
-fn seen_task(run: &Run, responses: &[Option<u64>], i: u32) -> Seen
-    requires small { IsSmall run.now }
-    requires responses { AreResponses run.now (length run.now.ticks) responses.now }
-    ensures { result ≡ seen_of run.now i }
+/// Nothing yet is seen of so many tasks.
+fn nothing_seen(alloc: Global, count: usize) -> Result<Vec<Seen>, AllocError>
+    ensures { IfOk result (λ v. v.items ≡ replicate count nothing) }
 {
-    let mut seen = Seen {
+    let nothing = Seen {
         jobs: 0,
         done: 0,
         worst: 0,
     };
-    for (k, job) in run.jobs.as_slice().iter().enumerate() {
-        if job.task == i {
-            seen = seen.with_response(responses[k]);
-        }
-    }
-    seen
+    vec![in alloc; nothing; count]
 }
 
-/// What is seen of each of the first `count` tasks.
+/// Notes job `k` as one of its task, with its response time if it is done.
+fn see_job(run: &Run, responses: &[Option<u64>], seen: &mut [Seen], k: u32)
+    requires small { IsSmall run.now }
+    requires job { k < length run.now.jobs }
+    requires below { AreBelow run.now (length seen.old) }
+    requires responses { AreResponses run.now (length run.now.ticks) responses.now }
+    requires seen { AreSeen run.now k seen.old }
+    ensures count { length seen.new ≡ length seen.old }
+    ensures seen { AreSeen run.now (k + 1) seen.new }
+{
+    let o = run.jobs.as_slice()[k as usize].task as usize;
+    seen[o] = seen[o].with_response(responses[k as usize]);
+}
+
+/// What is seen of each of the first `count` tasks, which have all jobs.
 pub fn seen_tasks(alloc: Global, run: &Run, count: u32) -> Result<Vec<Seen>, AllocError>
     requires small { IsSmall run.now }
+    requires below { AreBelow run.now count }
     requires released { AreReleased run.now }
     requires costs { ArePositive run.now }
     requires valid { AreValid run.now }
     ensures { IfOk result (λ v. v.items ≡ seen_below run.now count) }
 {
     let responses = response_times(alloc, run)?;
-    let mut seen = Vec::new(alloc);
-    for i in 0..count {
-        seen.push(seen_task(run, &responses, i))?;
+    let mut seen = nothing_seen(alloc, count as usize)?;
+    for k in 0..run.jobs.len() as u32 {
+        see_job(run, &responses, &mut seen, k);
     }
     Ok(seen)
 }

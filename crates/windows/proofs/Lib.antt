@@ -6,3 +6,5 @@ pub mod SpanFacts
 pub mod PairFacts
 pub mod CrowdFacts
 pub mod TickCounts
+pub mod DistanceFacts
+pub mod TimeFacts

@@ -6,8 +6,9 @@ ghost use Rattle.curve.specs.Validity.{IsCurve};
 ghost use Rattle.lists.specs.Searches.{IsFirstBelow};
 ghost use Rattle.schedule_laws.specs.Tests.{AreOf, AreEarly};
 ghost use Rattle.windows.specs.Crowds.{IsFirstCrowded, IsFirstJob, IsCrowdedOf, ArrivesAt, AreArrivals, task_arrivals, earlier_of, comes_first as comes_first_by, IsCrowdedPair, IsFirstCrowdedTick};
-ghost use Rattle.windows.specs.Spans.{IsSpan, AreSpans};
+ghost use Rattle.windows.specs.Distances.{AreNeededOf};
 
+use crate::distances::{Distance, needed_distances};
 use curve::Prefix;
 use run_model::Run;
 use std::alloc::{AllocError, Global};
@@ -127,9 +128,9 @@ fn first_crowded_tick(
         slice_index arrivals.now i ≤ greatest_number }
     ensures { IfOk result (IsFirstCrowdedTick curve.now arrivals.now) }
 {
-    let spans = spans(alloc, curve, arrivals.len())?;
+    let needed = needed_distances(alloc, curve, arrivals.len())?;
     for j in 0..arrivals.len() {
-        if has_crowded_pair(curve, &spans, arrivals, j) {
+        if has_crowded_pair(curve, &needed, arrivals, j) {
             return Ok(Some(arrivals[j]));
         }
     }
@@ -137,50 +138,26 @@ fn first_crowded_tick(
 }
 
 /// Whether in some window from an arrival to arrival `j` the arrivals from the one to the other are
-/// more than the curve says.
-fn has_crowded_pair(curve: &Prefix, spans: &[u64], arrivals: &[u64], j: usize) -> bool
+/// more than the curve says, where in none to an earlier arrival they are.
+fn has_crowded_pair(curve: &Prefix, needed: &[Distance], arrivals: &[u64], j: usize) -> bool
     requires ascending { IsNonDecreasing arrivals.now }
     requires early { (i : ℕ) → i < length arrivals.now →
         slice_index arrivals.now i ≤ greatest_number }
-    requires spans { AreSpans curve.now spans.now }
-    requires lengths { length spans.now ≡ length arrivals.now }
+    requires needed { AreNeededOf curve.now (length arrivals.now) needed.now }
+    requires free { (k i : ℕ) → k < j → IsCrowdedPair curve.now arrivals.now k i → ⊥ }
     requires listed { j < length arrivals.now }
     ensures { IsTrue result ↔ ((i : ℕ) × IsCrowdedPair curve.now arrivals.now j i) }
 {
     let end = arrivals[j] + 1;
-    // a window shorter than their span does not admit them
-    for i in 0..j + 1 {
-        if end - arrivals[i] < spans[j - i] {
+    for n in 0..needed.len() {
+        let distance = needed[n];
+        if distance.apart > j {
+            return false;
+        }
+        // a window shorter than their span does not admit them
+        if end - arrivals[j - distance.apart] < distance.span {
             return true;
         }
     }
     false
-}
-
-/// The spans of `1, .., count` jobs.
-fn spans(alloc: Global, curve: &Prefix, count: usize) -> Result<Vec<u64>, AllocError>
-    requires { IsCurve curve.now }
-    ensures spans { IfOk result (λ v. AreSpans curve.now v.items) }
-    ensures count { IfOk result (λ v. length v.items ≡ count) }
-{
-    let mut spans = Vec::with_capacity(alloc, count)?;
-    let mut span = 0;
-    for n in 0..count {
-        span = next_span(curve, n as u64, span);
-        spans.push(span)?;
-    }
-    Ok(spans)
-}
-
-/// The span of `n + 1` jobs, from that of `n` jobs.
-fn next_span(curve: &Prefix, n: u64, span: u64) -> u64
-    requires curve { IsCurve curve.now }
-    requires span { IsSpan curve.now n span }
-    ensures { IsSpan curve.now (n + 1) result }
-{
-    if curve.at(span) > n as u128 {
-        span
-    } else {
-        curve.next_rise(span).unwrap_or(u64::MAX)
-    }
 }

@@ -5,9 +5,14 @@
 #![tactic(auto)]
 
 mod crowds;
+mod distances;
 mod room;
+mod spans;
 mod supplied;
+mod times;
 
 pub use crowds::first_crowded;
+pub use distances::{Distance, needed_decide, needed_distances};
 pub use room::allowance;
-pub use supplied::{first_short, off_allowed};
+pub use supplied::{first_short, off_allowed, off_allowed_by};
+pub use times::{PromisedTime, needed_times};

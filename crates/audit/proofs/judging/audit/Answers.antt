@@ -1,4 +1,4 @@
-use Rattle.std.proofs.Common.{sym, subst}
+use Rattle.std.proofs.Common.{sym, subst, arith}
 use Rattle.supply.specs.Promises.{sbf_of}
 use Rattle.schedule_laws.specs.Compliance.{IsCompliant}
 use Rattle.schedule_laws.proofs.TestFacts.{valid_to}
@@ -26,6 +26,11 @@ pub seen_tasks-requires-clause-released : goal.seen_tasks-requires-clause-releas
 seen_tasks-requires-clause-released g c =
     let compliant = complies_from g.P.Policy.meaning g.M.Preemption.cuts (sbf_of c.args.sheet.now.supply) c.args.sheet.now c.args.run.now c.in_ok-rule.field-0 c.in_ok-rule.ensures c.in-None.is c.len-tasks.ensures.valid in
     releases_from c.args.sheet.now c.args.run.now compliant.valid.releases
+
+pub seen_tasks-requires-clause-below : goal.seen_tasks-requires-clause-below
+seen_tasks-requires-clause-below g c =
+    let compliant = complies_from g.P.Policy.meaning g.M.Preemption.cuts (sbf_of c.args.sheet.now.supply) c.args.sheet.now c.args.run.now c.in_ok-rule.field-0 c.in_ok-rule.ensures c.in-None.is c.len-tasks.ensures.valid in
+    λ k b. omega (arith, (compliant.valid.jobs k b).task, c.len-tasks.ensures)
 
 pub returns-in-Some-clause-compliance : goal.returns-in-Some-clause-compliance
 returns-in-Some-clause-compliance g c = λ compliant.

@@ -6,8 +6,8 @@ use Rattle.supply.specs.Lawful.{stated_starts, stated_grows}
 use Rattle.windows.proofs.TickCounts.{are_promised, on_fine, off_fine, off_short}
 use Rattle.windows.proofs.supplied.is_short.Goals as goal
 
-pub off_allowed-requires : goal.off_allowed-requires
-off_allowed-requires c =
+pub off_allowed_by-requires-clause-counts : goal.off_allowed_by-requires-clause-counts
+off_allowed_by-requires-clause-counts c =
     let sheet = c.args.sheet.now in
     let valid = c.len-valid.ensures.valid in
     are_promised (sbf_of sheet.supply) (stated_starts sheet valid) (λ d. stated_grows sheet d valid) c.args.run.now c.args.counts.now c.args.t c.requires.counts c.requires.free (omega arith)
@@ -18,13 +18,13 @@ returns-then-not-is_on c =
     let valid = c.len-valid.ensures.valid in
     let starts = stated_starts sheet valid in
     let off : is_on (tick_at c.args.run.now c.args.t) ≡ false = cc in
-    elim (cases_Bool c.off_allowed.result) [
+    elim (cases_Bool c.off_allowed_by.result) [
       | inl may ↦
-          let fine = off_fine (sbf_of sheet.supply) starts (λ d. stated_grows sheet d valid) c.args.run.now c.args.counts.now c.args.t c.requires.counts (c.off_allowed.ensures.0 may) c.requires.tick off in
+          let fine = off_fine (sbf_of sheet.supply) starts (λ d. stated_grows sheet d valid) c.args.run.now c.args.counts.now c.args.t c.requires.counts (c.off_allowed_by.ensures.0 may) c.requires.tick off in
           cc
       | inr not_may ↦
           let short = off_short (sbf_of sheet.supply) starts (λ d. stated_grows sheet d valid) c.args.run.now c.args.counts.now c.args.t c.requires.counts
-          (λ may. both_ways c.off_allowed.result not_may (c.off_allowed.ensures.1 may)) c.requires.tick off in
+          (λ may. both_ways c.off_allowed_by.result not_may (c.off_allowed_by.ensures.1 may)) c.requires.tick off in
           cc
     ]
 

@@ -1,6 +1,6 @@
 use Rattle.std.proofs.Common.{◌≡◌, length}
 use Rattle.windows.specs.Spans.{IsSpan, AreSpans}
-use Rattle.windows.proofs.crowds.spans.Given as goal
+use Rattle.windows.proofs.spans.spans.Given as goal
 
 abbrev pub invariant-loop-n : goal.invariant-loop-n
 invariant-loop-n l = record { spans : AreSpans l.curve l.spans.items; count : length l.spans.items ≡ l.n; span : IsSpan l.curve l.n l.span }

@@ -28,7 +28,7 @@ use Rattle.sheet_text.specs.Documents.{knows_only, number_of, all_of, items_coun
 use Rattle.sheet_text.specs.SupplyRows.{promised_rule}
 use Rattle.sheet_text.specs.CurveRows.{step_of, curve_rule}
 use Rattle.sheet_text.specs.CutRows.{segmented_rule, preemption_rule}
-use Rattle.sheet_text.specs.TaskRows.{task_keys, name_rule, jitter_rule, point_rule, names_of, task_of, tasks_after}
+use Rattle.sheet_text.specs.TaskRows.{task_keys, name_rule, jitter_rule, point_rule, numbers_rule, names_of, task_of, tasks_after}
 use Rattle.sheet_text.specs.SheetRows.{policy_rule, sheet_of}
 use Rattle.sheet_text.specs.Printed.{number_data, step_data, curve_data, cut_data, task_data, promise_data, sheet_data}
 
@@ -62,7 +62,7 @@ task_shown : (policy : PolicyKind) (n : ℕ) (names : List (List ℕ)) (t : Task
     jitter_rule (places.Task n) (get (codes "jitter") d) ≡ Ok t.jitter → point_rule (places.Task n) (get (codes "point") d) ≡ Ok t.point →
     get (codes "period") d ≡ None → get (codes "curve") d ≡ Some (curve_data t.curve) → get (codes "preemption") d ≡ Some (cut_data t.cut) →
     task_of policy n names d ≡ Ok t
-unfolding task_of name_rule
+unfolding task_of name_rule numbers_rule
 task_shown policy n names t d rule valid known name cost deadline priority jitter point period curve cut =
     let means = task_means n names t rule in
     let high = up_to 1000000000 t.priority means.priority in

@@ -12,6 +12,7 @@ use Rattle.task_sheet.specs.declared.refusal.SheetRefusal.{SheetRefusal}
 use Rattle.task_sheet.specs.declared.refusal.SheetRefusal.TheVariants.{Missing, Kind, Range, Twice}
 use Rattle.task_sheet.specs.Refusing.{◌>>=◌, holds}
 use Rattle.task_sheet.specs.Rules.{is_name, is_priority_point, most_jitter}
+use Rattle.sheet_text.specs.declared.tasks.TaskNumbers.{TaskNumbers}
 use Rattle.sheet_text.specs.Documents.{keys_rule, needed_rule, whole_rule, positive_rule}
 use Rattle.sheet_text.specs.CurveRows.{arrivals_rule}
 use Rattle.sheet_text.specs.CutRows.{preemption_rule}
@@ -56,20 +57,26 @@ abbrev pub point_rule : Place → Option Data → Result ℤ SheetRefusal
 point_rule place (Some d) = said_point place d
 point_rule place None = Ok (pos 0)
 
+-- the numbers of a task
+unfoldable pub numbers_rule : PolicyKind → Place → Data → Result TaskNumbers SheetRefusal
+numbers_rule policy place d = do
+  its_cost ← positive_rule (codes "cost") place fields.Cost d
+  its_deadline ← positive_rule (codes "deadline") place fields.Deadline d
+  its_priority ← priority_rule policy place (get (codes "priority") d)
+  its_jitter ← jitter_rule place (get (codes "jitter") d)
+  its_point ← point_rule place (get (codes "point") d)
+  Ok (record { cost = its_cost; deadline = its_deadline; priority = its_priority; jitter = its_jitter; point = its_point })
+
 -- task n, after tasks of these names
 unfoldable pub task_of : PolicyKind → ℕ → List (List ℕ) → Data → Result Task SheetRefusal
 task_of policy n names d = do
   known ← keys_rule task_keys (places.Task n) d
   named ← needed_rule (codes "name") (places.Task n) fields.Name d
   its_name ← name_rule n names named
-  its_cost ← positive_rule (codes "cost") (places.Task n) fields.Cost d
-  its_deadline ← positive_rule (codes "deadline") (places.Task n) fields.Deadline d
-  its_priority ← priority_rule policy (places.Task n) (get (codes "priority") d)
-  its_jitter ← jitter_rule (places.Task n) (get (codes "jitter") d)
-  its_point ← point_rule (places.Task n) (get (codes "point") d)
+  numbers ← numbers_rule policy (places.Task n) d
   its_curve ← arrivals_rule n (get (codes "period") d) (get (codes "curve") d)
-  its_cut ← preemption_rule n its_cost (get (codes "preemption") d)
-  Ok (record { name = its_name; cost = its_cost; deadline = its_deadline; priority = its_priority; jitter = its_jitter; point = its_point; curve = its_curve; cut = its_cut })
+  its_cut ← preemption_rule n numbers.cost (get (codes "preemption") d)
+  Ok (record { name = its_name; cost = numbers.cost; deadline = numbers.deadline; priority = numbers.priority; jitter = numbers.jitter; point = numbers.point; curve = its_curve; cut = its_cut })
 
 -- the names of some tasks
 abbrev pub names_of : List Task → List (List ℕ)

@@ -6,11 +6,11 @@ ghost use Rattle.toml.specs.Data.{string, integer, get};
 ghost use Rattle.toml.specs.View.{view, items_view};
 ghost use Rattle.curve.specs.Validity.{IsCurve};
 ghost use Rattle.lists.specs.Ranges.{is_between};
-ghost use Rattle.task_sheet.specs.Rules.{is_name as is_name_of, is_priority_point as is_priority_point_of, most_jitter, task_rule, tasks_rule};
+ghost use Rattle.task_sheet.specs.Rules.{is_name as is_name_of, is_in_range, is_priority_point as is_priority_point_of, most_jitter, task_rule, tasks_rule};
 ghost use Rattle.task_sheet.specs.Sheets.{no_task};
 ghost use Rattle.sheet_text.specs.Readings.{ReadsAs};
 ghost use Rattle.sheet_text.specs.Documents.{whole_rule};
-ghost use Rattle.sheet_text.specs.TaskRows.{name_rule, unsaid_priority as unsaid_of, priority_rule, jitter_rule, said_point as said_point_of, point_rule, task_of as task_of_value, tasks_after};
+ghost use Rattle.sheet_text.specs.TaskRows.{name_rule, unsaid_priority as unsaid_of, priority_rule, jitter_rule, said_point as said_point_of, point_rule, numbers_rule, task_of as task_of_value, tasks_after};
 
 use crate::arrivals::arrivals;
 use crate::cuts::preemption;
@@ -36,6 +36,16 @@ const TASK_KEYS: [&str; 9] = [
     "curve",
     "preemption",
 ];
+
+/// The numbers of a task.
+#[derive(Clone, Copy)]
+pub struct TaskNumbers {
+    pub cost: u64,
+    pub deadline: u64,
+    pub priority: u64,
+    pub jitter: u64,
+    pub point: i64,
+}
 
 /// A name for task `n` that is not among these, and is put there.
 #[tactic(auto, unfolding(crate::specs::TaskRows::name_rule))]
@@ -179,6 +189,29 @@ fn point_of(place: Place, task: &Value) -> Result<i64, SheetRefusal>
     }
 }
 
+#[tactic(auto, unfolding(crate::specs::TaskRows::numbers_rule))]
+fn numbers_of(policy: PolicyKind, place: Place, task: &Value) -> Result<TaskNumbers, SheetRefusal>
+    ensures gives { result ≡ numbers_rule policy place (view task.now) }
+    ensures cost { IfOk result (λ n. is_in_range n.cost ≡ true) }
+    ensures deadline { IfOk result (λ n. is_in_range n.deadline ≡ true) }
+    ensures priority { IfOk result (λ n. n.priority ≤ greatest_number) }
+    ensures jitter { IfOk result (λ n. n.jitter ≤ most_jitter) }
+    ensures point { IfOk result (λ n. is_priority_point_of n.point ≡ true) }
+{
+    let cost = positive(task, "cost", place, Field::Cost)?;
+    let deadline = positive(task, "deadline", place, Field::Deadline)?;
+    let priority = priority_of(policy, place, task)?;
+    let jitter = jitter_of(place, task)?;
+    let point = point_of(place, task)?;
+    Ok(TaskNumbers {
+        cost,
+        deadline,
+        priority,
+        jitter,
+        point,
+    })
+}
+
 /// Task `n`, after tasks of these names.
 #[tactic(auto, unfolding(crate::specs::TaskRows::task_of))]
 fn task_of(
@@ -203,20 +236,16 @@ fn task_of(
         n,
         names,
     )?;
-    let cost = positive(value, "cost", place, Field::Cost)?;
-    let deadline = positive(value, "deadline", place, Field::Deadline)?;
-    let priority = priority_of(policy, place, value)?;
-    let jitter = jitter_of(place, value)?;
-    let point = point_of(place, value)?;
+    let numbers = numbers_of(policy, place, value)?;
     let curve = arrivals(alloc, n, value)?;
-    let cut = preemption(alloc, n, cost, value)?;
+    let cut = preemption(alloc, n, numbers.cost, value)?;
     Ok(Task {
         name: Text::new(String::from_str(alloc, name)?),
-        cost,
-        deadline,
-        priority,
-        jitter,
-        point,
+        cost: numbers.cost,
+        deadline: numbers.deadline,
+        priority: numbers.priority,
+        jitter: numbers.jitter,
+        point: numbers.point,
         curve,
         cut,
     })

@@ -5,10 +5,8 @@ use Rattle.lists.specs.Sums.{max_below}
 use Rattle.lists.proofs.SumFacts.{sum_same}
 use Rattle.lists.proofs.FirstFacts.{all_same}
 use Rattle.task_sheet.specs.declared.tasks.PolicyKind.{PolicyKind}
-use Rattle.task_sheet.specs.declared.tasks.SupplySpec.{SupplySpec}
-use Rattle.task_sheet.specs.declared.tasks.Task.{Task}
 use Rattle.task_sheet.specs.SheetParts.{SheetParts}
-use Rattle.task_sheet.specs.Sheets.{task_at, parts_of}
+use Rattle.task_sheet.specs.Sheets.{task_at}
 use Rattle.policy.specs.declared.keys.Cap.{Cap}
 use Rattle.policy.specs.PolicyMeaning.{PolicyMeaning}
 use Rattle.policy.specs.Offsets.{cap_count, compared_of}
@@ -16,6 +14,10 @@ use Rattle.preemption.specs.CutMeaning.{CutMeaning}
 use Rattle.demand.specs.Demand.{capped_count, own_of, other_of, others_of, block_of, blocking_of, need_of, delay_of, class_part_of, window_need_of}
 use Rattle.search_space.specs.Points.{same_at, is_point}
 use Rattle.solver.specs.Points.{passing, points_below}
+
+-- the sheet with another policy
+abbrev pub twin : SheetParts → PolicyKind → SheetParts
+twin s k = record { policy = k; supply = s.supply; tasks = s.tasks }
 
 -- two policies say the same of the tasks of two sheets, keys aside
 pub record IsAlike (p q : PolicyMeaning) (s t : SheetParts) : Type 0 where
@@ -45,46 +47,46 @@ passing_same : (f g : ℕ → Bool) → ((k : ℕ) → f k ≡ g k) → (from n 
 passing_same f g same from zero = refl
 passing_same f g same from (suc n) = rw (same from, passing_same f g same (suc from) n) refl
 
-module _ (p q : PolicyMeaning) (m : CutMeaning) (one other : PolicyKind) (supply : SupplySpec) (tasks : List Task) (same : IsAlike p q (parts_of one supply tasks) (parts_of other supply tasks)) (i : ℕ) (here : i < length tasks) where
-  pub others_same : (a x : ℕ) → others_of p (parts_of one supply tasks) i a x ≡ others_of q (parts_of other supply tasks) i a x
+module _ (p q : PolicyMeaning) (m : CutMeaning) (s : SheetParts) (k : PolicyKind) (same : IsAlike p q s (twin s k)) (i : ℕ) (here : i < length s.tasks) where
+  pub others_same : (a x : ℕ) → others_of p s i a x ≡ others_of q (twin s k) i a x
   unfolding others_of
-  others_same a x = sum_same (other_of p (parts_of one supply tasks) i a x) (other_of q (parts_of other supply tasks) i a x) (length tasks)
-      (λ o b. but_itself o i 0 _ _ (λ ne. ap (λ (w : Cap). (task_at (parts_of one supply tasks) o).cost * capped_count (task_at (parts_of one supply tasks) o).curve (task_at (parts_of one supply tasks) o).jitter w x) (same.cap i o a here b ne)))
+  others_same a x = sum_same (other_of p s i a x) (other_of q (twin s k) i a x) (length s.tasks)
+      (λ o b. but_itself o i 0 _ _ (λ ne. ap (λ (w : Cap). (task_at s o).cost * capped_count (task_at s o).curve (task_at s o).jitter w x) (same.cap i o a here b ne)))
 
-  pub blocking_same : (a : ℕ) → blocking_of p m (parts_of one supply tasks) i a ≡ blocking_of q m (parts_of other supply tasks) i a
+  pub blocking_same : (a : ℕ) → blocking_of p m s i a ≡ blocking_of q m (twin s k) i a
   unfolding blocking_of
-  blocking_same a = max_same (block_of p m (parts_of one supply tasks) i a) (block_of q m (parts_of other supply tasks) i a) (length tasks)
-      (λ o b. ap (λ (w : Bool). cond w (m.longest (task_at (parts_of one supply tasks) o) - 1) 0) (others_only o i _ _ (λ ne. same.may_block i o a here b ne)))
+  blocking_same a = max_same (block_of p m s i a) (block_of q m (twin s k) i a) (length s.tasks)
+      (λ o b. ap (λ (w : Bool). cond w (m.longest (task_at s o) - 1) 0) (others_only o i _ _ (λ ne. same.may_block i o a here b ne)))
 
-  own_same : (a : ℕ) → own_of m (parts_of one supply tasks) i a ≡ own_of m (parts_of other supply tasks) i a
+  own_same : (a : ℕ) → own_of m s i a ≡ own_of m (twin s k) i a
   unfolding own_of
   own_same a = refl
 
-  pub need_same : (a x : ℕ) → need_of p m (parts_of one supply tasks) i a x ≡ need_of q m (parts_of other supply tasks) i a x
+  pub need_same : (a x : ℕ) → need_of p m s i a x ≡ need_of q m (twin s k) i a x
   unfolding need_of
   need_same a x = rw (blocking_same a, own_same a, others_same a x) refl
 
-  delays_same : max_below (delay_of p m (parts_of one supply tasks) i) (length tasks) ≡ max_below (delay_of q m (parts_of other supply tasks) i) (length tasks)
-  delays_same = max_same _ _ (length tasks)
-      (λ o b. ap (λ (w : Bool). cond w (m.longest (task_at (parts_of one supply tasks) o) - 1) 0) (others_only o i _ _ (λ ne. same.may_delay i o here b ne)))
+  delays_same : max_below (delay_of p m s i) (length s.tasks) ≡ max_below (delay_of q m (twin s k) i) (length s.tasks)
+  delays_same = max_same _ _ (length s.tasks)
+      (λ o b. ap (λ (w : Bool). cond w (m.longest (task_at s o) - 1) 0) (others_only o i _ _ (λ ne. same.may_delay i o here b ne)))
 
-  pub window_need_same : (l : ℕ) → window_need_of p m (parts_of one supply tasks) i l ≡ window_need_of q m (parts_of other supply tasks) i l
+  pub window_need_same : (l : ℕ) → window_need_of p m s i l ≡ window_need_of q m (twin s k) i l
   unfolding window_need_of
   window_need_same l =
-      let parts = sum_same (class_part_of p (parts_of one supply tasks) i l) (class_part_of q (parts_of other supply tasks) i l) (length tasks)
+      let parts = sum_same (class_part_of p s i l) (class_part_of q (twin s k) i l) (length s.tasks)
       (λ o b. rw (same.class i o here b) refl) in
       rw (delays_same, parts) refl
 
-  compared_same : (a o : ℕ) → o < length tasks → compared_of p (parts_of one supply tasks) i a o ≡ compared_of q (parts_of other supply tasks) i a o
-  compared_same a o b = but_itself o i _ _ _ (λ ne. ap (cap_count (task_at (parts_of one supply tasks) o).curve) (same.cap i o a here b ne))
+  compared_same : (a o : ℕ) → o < length s.tasks → compared_of p s i a o ≡ compared_of q (twin s k) i a o
+  compared_same a o b = but_itself o i _ _ _ (λ ne. ap (cap_count (task_at s o).curve) (same.cap i o a here b ne))
 
-  pub at_same : (a b : ℕ) → same_at p (parts_of one supply tasks) i a b ≡ same_at q (parts_of other supply tasks) i a b
-  at_same a b = all_same _ _ (length tasks) (λ o l. rw (compared_same a o l, compared_same b o l) refl)
+  pub at_same : (a b : ℕ) → same_at p s i a b ≡ same_at q (twin s k) i a b
+  at_same a b = all_same _ _ (length s.tasks) (λ o l. rw (compared_same a o l, compared_same b o l) refl)
 
-  is_point_same : (a : ℕ) → is_point p (parts_of one supply tasks) i a ≡ is_point q (parts_of other supply tasks) i a
+  is_point_same : (a : ℕ) → is_point p s i a ≡ is_point q (twin s k) i a
   unfolding is_point
   is_point_same a = ap (λ (w : Bool). (a == 0) || not w) (at_same (a - 1) a)
 
-  pub points_same : (window : ℕ) → points_below p (parts_of one supply tasks) i window ≡ points_below q (parts_of other supply tasks) i window
+  pub points_same : (window : ℕ) → points_below p s i window ≡ points_below q (twin s k) i window
   unfolding points_below
   points_same window = passing_same _ _ is_point_same 0 window

@@ -16,22 +16,22 @@ use Rattle.policy_more.specs.Meanings.{meaning_of}
 use Rattle.policy_more.specs.Lawful.{above, level, below}
 use Rattle.preemption.specs.CutMeaning.{CutMeaning}
 use Rattle.policy_pairs.specs.Pairs.{DifferInPolicy, AreJudgedAlike, PointsAreDeadlines, HaveOnePoint, HaveOnePriority, HaveDistinctPriorities, GelIsEdf, GelIsFifo, ElfIsGel, ElfIsFp}
-use Rattle.policy_pairs.proofs.Alike.{IsAlike}
+use Rattle.policy_pairs.proofs.Alike.{twin, IsAlike}
 use Rattle.policy_pairs.proofs.AlikeConditions.{failed_same}
 use Rattle.policy_pairs.proofs.AlikeBest.{best_same}
 
 -- sheets that differ in the policy alone are judged alike where their policies say the same
 judged_alike : (m : CutMeaning) (sbf : ℕ → ℕ) (one other : PolicyKind) (s t : SheetParts) → DifferInPolicy one other s t →
-    IsAlike (meaning_of one) (meaning_of other) (parts_of one s.supply s.tasks) (parts_of other s.supply s.tasks) → AreJudgedAlike m sbf s t
+    IsAlike (meaning_of one) (meaning_of other) s (twin s other) → AreJudgedAlike m sbf s t
 judged_alike m sbf one other s t differ same =
-    let twins : AreJudgedAlike m sbf (parts_of one s.supply s.tasks) (parts_of other s.supply s.tasks) = record {
-      failed = failed_same (meaning_of one) (meaning_of other) m sbf one other s.supply s.tasks same;
-      best = best_same (meaning_of one) (meaning_of other) m sbf one other s.supply s.tasks same;
+    let first : IsAlike (meaning_of s.policy) (meaning_of other) s (twin s other) = subst (λ (w : PolicyKind). IsAlike (meaning_of w) (meaning_of other) s (twin s other)) (sym differ.first) same in
+    let alike : IsAlike (meaning_of s.policy) (meaning_of t.policy) s (twin s t.policy) = subst (λ (w : PolicyKind). IsAlike (meaning_of s.policy) (meaning_of w) s (twin s w)) (sym differ.second) first in
+    let twins : AreJudgedAlike m sbf s (twin s t.policy) = record {
+      failed = failed_same (meaning_of s.policy) (meaning_of t.policy) m sbf s t.policy alike;
+      best = best_same (meaning_of s.policy) (meaning_of t.policy) m sbf s t.policy alike;
     } in
-    let first : AreJudgedAlike m sbf s (parts_of other s.supply s.tasks) = subst (λ (w : PolicyKind). AreJudgedAlike m sbf (parts_of w s.supply s.tasks) (parts_of other s.supply s.tasks)) (sym differ.first) twins in
-    let second : parts_of other s.supply s.tasks ≡ t =
-    ap (λ (w : PolicyKind). parts_of w s.supply s.tasks) (sym differ.second) ∙ ap (λ (w : SupplySpec). parts_of t.policy w s.tasks) differ.supply ∙ ap (parts_of t.policy t.supply) differ.tasks in
-    subst (λ (w : SheetParts). AreJudgedAlike m sbf s w) second first
+    let whole : twin s t.policy ≡ t = ap (λ (w : SupplySpec). parts_of t.policy w s.tasks) differ.supply ∙ ap (parts_of t.policy t.supply) differ.tasks in
+    subst (AreJudgedAlike m sbf s) whole twins
 
 same_test : (b c : Bool) → (b ≡ true → c ≡ true) → (c ≡ true → b ≡ true) → b ≡ c
 same_test true c there back = sym (there refl)
@@ -84,9 +84,9 @@ gel_fifo m sbf s t differ equal = judged_alike m sbf Gel Fifo s t differ (record
 pub elf_gel : (m : CutMeaning) (sbf : ℕ → ℕ) → ElfIsGel m sbf
 elf_gel m sbf s t differ equal = judged_alike m sbf Elf Gel s t differ (record {
   class = λ i o b c. le-leb _ _ (omega (arith, equal i o b c));
-  cap = λ i o a b c ne. level (parts_of Elf s.supply s.tasks) i o All _ Nothing (equal i o b c);
-  may_block = λ i o a b c ne. level (parts_of Elf s.supply s.tasks) i o false _ true (equal i o b c);
-  may_delay = λ i o b c ne. level (parts_of Elf s.supply s.tasks) i o false _ true (equal i o b c);
+  cap = λ i o a b c ne. level s i o All _ Nothing (equal i o b c);
+  may_block = λ i o a b c ne. level s i o false _ true (equal i o b c);
+  may_delay = λ i o b c ne. level s i o false _ true (equal i o b c);
 })
 
 cap_by_priorities : (sheet : SheetParts) (i o : ℕ) (x : Cap) → (task_at sheet i).priority ≢ (task_at sheet o).priority →
@@ -112,7 +112,7 @@ block_by_priorities sheet i o x differ = elim (cases_order (task_at sheet i).pri
 pub elf_fp : (m : CutMeaning) (sbf : ℕ → ℕ) → ElfIsFp m sbf
 elf_fp m sbf s t differ distinct = judged_alike m sbf Elf Fp s t differ (record {
   class = λ i o b c. refl;
-  cap = λ i o a b c ne. cap_by_priorities (parts_of Elf s.supply s.tasks) i o _ (distinct i o b c (λ e. ne (sym e)));
-  may_block = λ i o a b c ne. block_by_priorities (parts_of Elf s.supply s.tasks) i o _ (distinct i o b c (λ e. ne (sym e)));
-  may_delay = λ i o b c ne. block_by_priorities (parts_of Elf s.supply s.tasks) i o _ (distinct i o b c (λ e. ne (sym e)));
+  cap = λ i o a b c ne. cap_by_priorities s i o _ (distinct i o b c (λ e. ne (sym e)));
+  may_block = λ i o a b c ne. block_by_priorities s i o _ (distinct i o b c (λ e. ne (sym e)));
+  may_delay = λ i o b c ne. block_by_priorities s i o _ (distinct i o b c (λ e. ne (sym e)));
 })

@@ -8,6 +8,7 @@ use Rattle.simulated_run.specs.declared.mode.Mode.{Mode}
 use Rattle.simulated_run.specs.Laws.{IsDense}
 use Rattle.simulated_run.specs.SimulatedRun.{World, world_of, moment_after, simulated_run}
 use Rattle.simulator.specs.Simulations.{IsSimulation, refused_by}
+use Rattle.simulator.specs.AllOpenings.{AreOpenings}
 use Rattle.simulator.specs.SimulationState.{IsKept, world_by, moment_of, run_of}
 use Rattle.simulator.proofs.SimulationFacts.{simulated, simulated_is, refused, run_is}
 use Rattle.simulator.proofs.RunLimits.{kept_within}
@@ -26,7 +27,8 @@ loop-t-preserved g c =
     let w : World = world_by g.P.Policy.meaning g.M.Preemption.cuts c.args.sheet.now c.args.mode in
     let is : moment_of c.run_tick.new.simulation ≡ moment_after w (c.loop-t.t + 1) = rw add-one c.in_ok-run_tick.ensures.moment in
     let kept : IsKept w.policy w.cuts w.sheet (c.loop-t.t + 1) c.run_tick.new.simulation = rw add-one c.in_ok-run_tick.ensures.kept in
-    record { moment = is; kept = kept }
+    let openings : AreOpenings w.sheet (run_of c.run_tick.new.simulation) (c.loop-t.t + 1) c.run_tick.new.openings = rw add-one c.in_ok-run_tick.ensures.openings in
+    record { moment = is; kept = kept; openings = openings }
 
 pub returns : goal.returns
 returns g c =

@@ -1,11 +1,12 @@
 -- A tick at which no job of a task may arrive stays one, whatever arrives.
-use Rattle.std.proofs.Common.{◌≡◌, ℕ, zero, suc, ◌+◌, ◌<◌, ◌≤◌, List, length, get_or, min, replicate, refl, sym, ◌∙◌, ap, subst, inl, inr, arith}
+use Rattle.std.proofs.Common.{◌≡◌, ℕ, zero, suc, ◌+◌, ◌<◌, ◌≤◌, List, [], ◌∷◌, ◌++◌, length, get_or, min, replicate, refl, sym, ◌∙◌, ap, subst, inl, inr, arith}
 use Rattle.std.proofs.Math.ListN.{set}
-use Rattle.std.proofs.lemmas.Bool.{cases_eq}
-use Rattle.std.proofs.lemmas.List.{get_or-set_same, get_or-set_other, length-set, length-replicate, get_or-replicate}
+use Rattle.std.proofs.lemmas.Bool.{cases_eq, cases_lt}
+use Rattle.std.proofs.lemmas.List.{get_or-set_same, get_or-set_other, get_or_append_left, get_or_at, length-set, length-replicate, get_or-replicate}
 use Rattle.lists.proofs.SearchFacts.{greatest_is}
 use Rattle.curve.specs.CurveValue.{Curve}
 use Rattle.curve.specs.Curves.{alpha_of}
+use Rattle.curve.specs.Validity.{IsCurve}
 use Rattle.task_sheet.specs.SheetParts.{SheetParts}
 use Rattle.task_sheet.specs.Sheets.{task_at}
 use Rattle.task_sheet.specs.declared.tasks.Task.{Task}
@@ -112,11 +113,19 @@ pub record AreArriving (sheet : SheetParts) (run : Run) (t m : ℕ) (ticks : Lis
   pub come : (o : ℕ) → o < m → o < length sheet.tasks → IsShut sheet o run (suc t) (get_or ticks o 0)
   pub rest : (o : ℕ) → m ≤ o → o < length sheet.tasks → IsShut sheet o run t (get_or ticks o 0)
   pub gaps : HasGaps sheet list
-  pub first : (o : ℕ) → o < m → first ≤ get_or ticks o 0
+  pub least : (o : ℕ) → o < m → first ≤ get_or ticks o 0
 
 pub arriving_start : (sheet : SheetParts) (run : Run) (t first : ℕ) (openings : Openings) → AreOpenings sheet run t openings →
     AreArriving sheet run t 0 openings.ticks.items openings.gaps.items first
-arriving_start sheet run t first openings are = record { tasks = are.shut.tasks; come = λ o b h. absurd (omega arith); rest = λ o b h. are.shut.each o h; gaps = are.gaps; first = λ o b. absurd (omega arith) }
+arriving_start sheet run t first openings are = record { tasks = are.shut.tasks; come = λ o b h. absurd (omega arith); rest = λ o b h. are.shut.each o h; gaps = are.gaps; least = λ o b. absurd (omega arith) }
+
+pub gaps_pushed : (n : ℕ) (list more : List Gaps) (x : Gaps) → more ≡ list ++ x ∷ [] → length list ≡ n →
+    ((o : ℕ) (d : Gaps) (c : Curve) → o < n → IsCurve c → IsGaps c (get_or list o d)) → ((c : Curve) → IsCurve c → IsGaps c x) →
+    (o : ℕ) (d : Gaps) (c : Curve) → o < n + 1 → IsCurve c → IsGaps c (get_or more o d)
+gaps_pushed n list more x e len old new o d c b ok = elim (cases_lt o n) [
+  | inl l ↦ subst (IsGaps c) (sym (ap (λ (v : List Gaps). get_or v o d) e ∙ get_or_append_left list (x ∷ []) d o (omega (arith, len, l)))) (old o d c l ok)
+  | inr l ↦ subst (IsGaps c) (sym (ap (λ (v : List Gaps). get_or v o d) e ∙ get_or_at list x [] d o (omega (arith, len, l, b)))) (new c ok)
+]
 
 gaps_more : (sheet : SheetParts) (list : List Gaps) (m : ℕ) (gaps : Gaps) → HasGaps sheet list → m < length sheet.tasks → IsGaps (task_at sheet m).curve gaps →
     HasGaps sheet (set list m gaps)
@@ -144,9 +153,9 @@ arriving_next sheet run later t m first next new ticks list gaps h was b shut ar
       rest = λ o l i.
           subst (IsShut sheet o later t) (sym (get_or-set_other ticks m o next 0 (λ is. omega arith))) (shut_on sheet o run later t (get_or ticks o 0) b (was.rest o (omega arith) i));
       gaps = gaps_more sheet list m gaps was.gaps h are;
-      first = λ o l. elim (cases_eq o m) [
+      least = λ o l. elim (cases_eq o m) [
         | inl is ↦ omega (arith, here, ap (λ k. get_or (set ticks m next) k 0) is)
-        | inr ne ↦ omega (arith, was.first o (omega arith), get_or-set_other ticks m o next 0 ne)
+        | inr ne ↦ omega (arith, was.least o (omega arith), get_or-set_other ticks m o next 0 ne)
       ];
     }
 
@@ -155,5 +164,5 @@ pub arriving_end : (sheet : SheetParts) (run : Run) (t m first : ℕ) (openings 
 arriving_end sheet run t m first openings all e was = record {
   shut = record { tasks = was.tasks; each = λ o h. was.come o (omega arith) h };
   gaps = was.gaps;
-  first = λ o h. omega (arith, was.first o (omega arith));
+  first = λ o h. omega (arith, was.least o (omega arith));
 }

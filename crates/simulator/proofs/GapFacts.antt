@@ -83,8 +83,7 @@ module _ (c : Curve) (ok : IsCurve c) (gaps : List Gap) (list : List ℕ) (windo
       let some = are.some in
       let low = (are.low p.0 p.1).low in
       let n : ℕ = (gap_at gaps p.0).count in
-      let kept : get_or (list ++ x ∷ []) (k - n) 0 ≡ get_or list (k - n) 0 = get_or_append_left list (x ∷ []) 0 (k - n) (omega (arith, low, some)) in
-      (
+      let kept : get_or (list ++ x ∷ []) (k - n) 0 ≡ get_or list (k - n) 0 = get_or_append_left list (x ∷ []) 0 (k - n) (omega (arith, low, some)) in (
         p.0,
         omega (arith, p.1, longer),
         subst (λ (g : Gap). g.count ≤ k) (sym (same p.0 p.1)) p.2,

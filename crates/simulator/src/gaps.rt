@@ -158,5 +158,9 @@ pub fn room(curve: &Prefix, gaps: &Gaps, arrivals: &[u64], t: u64) -> u64
     if curve.at(1) > 1 || gaps.densest.len() <= arrivals.len() {
         return allowance(curve, arrivals, t);
     }
-    if earliest(&gaps.gaps, arrivals) <= t { 1 } else { 0 }
+    if earliest(&gaps.gaps, arrivals) <= t {
+        1
+    } else {
+        0
+    }
 }

@@ -6,6 +6,8 @@ pub mod QueueFacts
 pub mod CutFacts
 pub mod KeepFacts
 pub mod ArrivalFacts
+pub mod GapFacts
+pub mod ShutFacts
 pub mod TickFacts
 pub mod SimulationFacts
 pub mod RunLimits

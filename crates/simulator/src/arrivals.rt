@@ -1,13 +1,18 @@
 //! The jobs that arrive at a tick.
-ghost use Rattle.std.specs.Prelude.{◌≡◌, ◌≤◌, ◌<◌, ◌+◌, length, OnOk, IfErr};
+ghost use Rattle.std.specs.Prelude.{◌≡◌, ◌≤◌, ◌<◌, ◌+◌, suc, length, OnOk, IfOk, IfErr};
 ghost use Rattle.lists.specs.Limits.{most_ticks};
 ghost use Rattle.task_sheet.specs.Sheets.{task_at};
 ghost use Rattle.preemption.specs.CutLaws.{Serves};
 ghost use Rattle.simulated_run.specs.SimulatedRun.{with_job, add_job as add_job_by, add_jobs as add_jobs_by, arrive_of as arrive_of_by, moment_after};
 ghost use Rattle.simulator.specs.Simulations.{IsRefusal};
+ghost use Rattle.simulator.specs.Openings.{IsShut};
+ghost use Rattle.simulator.specs.Gaps.{IsGaps};
+ghost use Rattle.simulator.specs.AllOpenings.{AreOpenings};
 ghost use Rattle.simulator.specs.SimulationState.{IsReady, IsTakenUp, IsNew, world_by, run_of, moment_of, moment_with};
 
+use crate::gaps::{Gaps, cover, next_opening, room};
 use crate::loads::draw_load;
+use crate::openings::Openings;
 use crate::refusal::SimRefusal;
 use crate::simulation::{Due, Simulation};
 use crate::words::{draw_count, draw_release};
@@ -20,7 +25,6 @@ use std::alloc::{AllocError, Global};
 use std::collections::{BTreeMap, BTreeSet};
 use task_sheet::{Job, Sheet};
 use urgency::{Rank, rank_of};
-use windows::allowance;
 
 /// Puts a new job into the queue where it is released by `t`, else among those to come.
 fn take_up(
@@ -152,6 +156,7 @@ fn arrive_of<P: Policy, M: Tabled>(
     sheet: &Sheet,
     mode: Mode,
     simulation: &mut Simulation,
+    gaps: &Gaps,
     o: u32,
     t: u64,
 ) -> Result<(), SimRefusal>
@@ -160,6 +165,7 @@ fn arrive_of<P: Policy, M: Tabled>(
     requires served { Serves M.cuts sheet.now }
     requires kept { IsReady P.meaning M.cuts sheet.now t simulation.old }
     requires stage { moment_of simulation.old ≡ moment_with (world_by P.meaning M.cuts sheet.now mode) t o }
+    requires gaps { IsGaps (task_at sheet.now o).curve gaps.now }
     ensures moment { OnOk result (moment_of simulation.new ≡
         arrive_of_by (world_by P.meaning M.cuts sheet.now mode) o t (moment_of simulation.old)) }
     ensures kept { OnOk result (IsReady P.meaning M.cuts sheet.now t simulation.new) }
@@ -167,31 +173,103 @@ fn arrive_of<P: Policy, M: Tabled>(
         (arrive_of_by (world_by P.meaning M.cuts sheet.now mode) o t (moment_of simulation.old)).run.jobs) }
 {
     let curve = &sheet.task(o).curve;
-    let room = allowance(curve, &simulation.arrivals[o as usize], t);
+    let room = room(curve, gaps, &simulation.arrivals[o as usize], t);
     let n = draw_count(mode, room, &mut simulation.words);
     add_jobs::<P, M>(alloc, sheet, mode, simulation, o, t, n)
 }
 
-/// The jobs of all tasks that arrive at `t`.
-pub fn arrive<P: Policy, M: Tabled>(
+/// The jobs of task `o` that arrive at `t`, none of which may before `start`; and from when on the next may.
+fn arrive_from<P: Policy, M: Tabled>(
     alloc: Global,
     sheet: &Sheet,
     mode: Mode,
     simulation: &mut Simulation,
+    gaps: &mut Gaps,
+    o: u32,
+    t: u64,
+    start: u64,
+) -> Result<u64, SimRefusal>
+    requires task { o < length sheet.now.tasks }
+    requires time { t ≤ most_ticks }
+    requires served { Serves M.cuts sheet.now }
+    requires kept { IsReady P.meaning M.cuts sheet.now t simulation.old }
+    requires stage { moment_of simulation.old ≡ moment_with (world_by P.meaning M.cuts sheet.now mode) t o }
+    requires shut { IsShut sheet.now o (run_of simulation.old) t start }
+    requires gaps { IsGaps (task_at sheet.now o).curve gaps.old }
+    ensures moment { OnOk result (moment_of simulation.new ≡
+        arrive_of_by (world_by P.meaning M.cuts sheet.now mode) o t (moment_of simulation.old)) }
+    ensures kept { OnOk result (IsReady P.meaning M.cuts sheet.now t simulation.new) }
+    ensures gaps { OnOk result (IsGaps (task_at sheet.now o).curve gaps.new) }
+    ensures shut { IfOk result (IsShut sheet.now o (run_of simulation.new) (suc t)) }
+    ensures refusal { IfErr result (IsRefusal
+        (arrive_of_by (world_by P.meaning M.cuts sheet.now mode) o t (moment_of simulation.old)).run.jobs) }
+{
+    if t < start {
+        return Ok(start);
+    }
+    arrive_of::<P, M>(alloc, sheet, mode, simulation, gaps, o, t)?;
+    let curve = &sheet.task(o).curve;
+    let arrivals = simulation.arrivals[o as usize].as_slice();
+    cover(curve, gaps, arrivals)?;
+    Ok(next_opening(curve, gaps, arrivals, t + 1))
+}
+
+/// The jobs of all tasks that arrive at `t`.
+fn arrive_each<P: Policy, M: Tabled>(
+    alloc: Global,
+    sheet: &Sheet,
+    mode: Mode,
+    simulation: &mut Simulation,
+    openings: &mut Openings,
     t: u64,
 ) -> Result<(), SimRefusal>
     requires time { t ≤ most_ticks }
     requires served { Serves M.cuts sheet.now }
     requires kept { IsReady P.meaning M.cuts sheet.now t simulation.old }
     requires stage { moment_of simulation.old ≡ moment_after (world_by P.meaning M.cuts sheet.now mode) t }
+    requires openings { AreOpenings sheet.now (run_of simulation.old) t openings.old }
     ensures moment { OnOk result (moment_of simulation.new ≡
         moment_with (world_by P.meaning M.cuts sheet.now mode) t (length sheet.now.tasks)) }
     ensures kept { OnOk result (IsReady P.meaning M.cuts sheet.now t simulation.new) }
+    ensures openings { OnOk result (AreOpenings sheet.now (run_of simulation.new) (suc t) openings.new) }
     ensures refusal { IfErr result (IsRefusal
         (moment_with (world_by P.meaning M.cuts sheet.now mode) t (length sheet.now.tasks)).run.jobs) }
 {
+    let mut first = u64::MAX;
     for o in 0..sheet.len() {
-        arrive_of::<P, M>(alloc, sheet, mode, simulation, o, t)?;
+        let before = openings.ticks[o as usize];
+        let gaps = &mut openings.gaps[o as usize];
+        let next = arrive_from::<P, M>(alloc, sheet, mode, simulation, gaps, o, t, before)?;
+        openings.ticks[o as usize] = next;
+        first = first.min(next);
     }
+    openings.first = first;
     Ok(())
+}
+
+/// The same, with nothing to do before the first tick at which a job may arrive.
+pub fn arrive<P: Policy, M: Tabled>(
+    alloc: Global,
+    sheet: &Sheet,
+    mode: Mode,
+    simulation: &mut Simulation,
+    openings: &mut Openings,
+    t: u64,
+) -> Result<(), SimRefusal>
+    requires time { t ≤ most_ticks }
+    requires served { Serves M.cuts sheet.now }
+    requires kept { IsReady P.meaning M.cuts sheet.now t simulation.old }
+    requires stage { moment_of simulation.old ≡ moment_after (world_by P.meaning M.cuts sheet.now mode) t }
+    requires openings { AreOpenings sheet.now (run_of simulation.old) t openings.old }
+    ensures moment { OnOk result (moment_of simulation.new ≡
+        moment_with (world_by P.meaning M.cuts sheet.now mode) t (length sheet.now.tasks)) }
+    ensures kept { OnOk result (IsReady P.meaning M.cuts sheet.now t simulation.new) }
+    ensures openings { OnOk result (AreOpenings sheet.now (run_of simulation.new) (suc t) openings.new) }
+    ensures refusal { IfErr result (IsRefusal
+        (moment_with (world_by P.meaning M.cuts sheet.now mode) t (length sheet.now.tasks)).run.jobs) }
+{
+    if t < openings.first {
+        return Ok(());
+    }
+    arrive_each::<P, M>(alloc, sheet, mode, simulation, openings, t)
 }

@@ -2,7 +2,9 @@
 #![tactic(auto)]
 
 mod arrivals;
+mod gaps;
 mod loads;
+mod openings;
 mod refusal;
 mod releases;
 mod running;

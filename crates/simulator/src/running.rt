@@ -11,9 +11,11 @@ ghost use Rattle.simulated_run.specs.declared.mode.Mode.TheVariants.{Dense};
 ghost use Rattle.simulated_run.specs.Laws.{IsDense};
 ghost use Rattle.simulated_run.specs.SimulatedRun.{World, world_of, seed_of as seed_by, moment_after};
 ghost use Rattle.simulator.specs.Simulations.{IsSimulation, IsRefusal};
-ghost use Rattle.simulator.specs.SimulationState.{IsKept, world_by, moment_of, moment_with};
+ghost use Rattle.simulator.specs.AllOpenings.{AreOpenings};
+ghost use Rattle.simulator.specs.SimulationState.{IsKept, world_by, run_of, moment_of, moment_with};
 
 use crate::arrivals::arrive;
+use crate::openings::{Openings, open_all};
 use crate::refusal::SimRefusal;
 use crate::releases::let_in;
 use crate::simulation::Simulation;
@@ -94,20 +96,23 @@ fn run_tick<P: Policy, M: Tabled>(
     sheet: &Sheet,
     mode: Mode,
     simulation: &mut Simulation,
+    openings: &mut Openings,
     t: u64,
 ) -> Result<(), SimRefusal>
     requires time { t ≤ most_ticks }
     requires served { Serves M.cuts sheet.now }
     requires kept { IsKept P.meaning M.cuts sheet.now t simulation.old }
     requires stage { moment_of simulation.old ≡ moment_after (world_by P.meaning M.cuts sheet.now mode) t }
+    requires openings { AreOpenings sheet.now (run_of simulation.old) t openings.old }
     ensures moment { OnOk result (moment_of simulation.new ≡
         moment_after (world_by P.meaning M.cuts sheet.now mode) (suc t)) }
     ensures kept { OnOk result (IsKept P.meaning M.cuts sheet.now (suc t) simulation.new) }
+    ensures openings { OnOk result (AreOpenings sheet.now (run_of simulation.new) (suc t) openings.new) }
     ensures refusal { IfErr result (IsRefusal
         (moment_with (world_by P.meaning M.cuts sheet.now mode) t (length sheet.now.tasks)).run.jobs) }
 {
     let_in::<P, M>(sheet, simulation, t)?;
-    arrive::<P, M>(alloc, sheet, mode, simulation, t)?;
+    arrive::<P, M>(alloc, sheet, mode, simulation, openings, t)?;
     add_tick::<P, M>(sheet, mode, simulation, t)?;
     Ok(())
 }
@@ -138,8 +143,9 @@ pub fn simulate<P: Policy, M: Tabled, S: Supply>(
     simulation_complies::<P, M, S>();
     dense_is_full::<P, M, S>();
     let mut simulation = start::<P, M>(alloc, sheet, mode)?;
+    let mut openings = open_all(alloc, sheet.len())?;
     for t in 0..n {
-        run_tick::<P, M>(alloc, sheet, mode, &mut simulation, t)?;
+        run_tick::<P, M>(alloc, sheet, mode, &mut simulation, &mut openings, t)?;
     }
     let Simulation { jobs, ticks, .. } = simulation;
     Ok(Run {

@@ -1,15 +1,11 @@
-use Rattle.std.proofs.Common.{length, arith}
-use Rattle.std.proofs.lemmas.Result.{err_from_is_err_and}
-use Rattle.simulated_run.specs.SimulatedRun.{World, moment_after}
+use Rattle.std.proofs.Common.{length, sym, ◌∙◌, ap, arith}
+use Rattle.simulated_run.specs.SimulatedRun.{World, arrive_below}
 use Rattle.simulator.specs.SimulationState.{world_by, moment_of}
-use Rattle.simulator.proofs.ArrivalFacts.{refuses_tasks}
+use Rattle.simulator.proofs.ShutFacts.{all_shut}
 use Rattle.simulator.proofs.arrivals.arrive.Goals as goal
 
-pub returns-in_err-arrive_of-clause-refusal : goal.returns-in_err-arrive_of-clause-refusal
-returns-in_err-arrive_of-clause-refusal g c =
+pub returns-then-t-openings-clause-moment : goal.returns-then-t-openings-clause-moment
+returns-then-t-openings-clause-moment g c =
     let w : World = world_by g.P.Policy.meaning g.M.Preemption.cuts c.args.sheet.now c.args.mode in
-    let p = err_from_is_err_and c.from_residual.result c.from_residual.ensures.1 in
-    rw (p.1, p.2)
-    (refuses_tasks w c.args.t c.loop-o.o (length w.sheet.tasks) (moment_after w c.args.t) (moment_of c.loop-o.simulation)
-    c.in_err-arrive_of.field-0.0 (omega (arith, c.len-o-end.ensures.len)) c.loop-o.invariant.moment
-    c.in_err-arrive_of.ensures.refusal)
+    sym (all_shut w c.args.t (moment_of c.args.simulation.now) c.args.openings.now c.requires.openings (omega arith))
+    ∙ ap (arrive_below w c.args.t (length w.sheet.tasks)) c.requires.stage

@@ -8,8 +8,8 @@ use Rattle.simulator.specs.SimulationState.{world_by, moment_of, run_of}
 use Rattle.simulator.proofs.ArrivalFacts.{arrived_by, list_is, list_past, room_is, lawful_world, allowance_small}
 use Rattle.simulator.proofs.arrivals.arrive_of.Goals as goal
 
-pub allowance-room-requires-clause-past : goal.allowance-room-requires-clause-past
-allowance-room-requires-clause-past g c =
+pub room-room-requires-clause-past : goal.room-room-requires-clause-past
+room-room-requires-clause-past g c =
     let w : World = world_by g.P.Policy.meaning g.M.Preemption.cuts c.args.sheet.now c.args.mode in
     let m = c.args.simulation.now in
     let valid = c.task.ensures.valid in
@@ -24,7 +24,7 @@ allowance-room-requires-clause-past g c =
 pub draw_count-n-requires : goal.draw_count-n-requires
 draw_count-n-requires g c =
     let ok : IsCurve c.task.result.now.curve = subst (λ (v : Task). IsCurve v.curve) (sym c.task.ensures.task) (c.task.ensures.valid.each c.args.o c.requires.task).curve in
-    omega (arith, c.allowance-room.ensures, allowance_small c.task.result.now.curve c.deref.result.now c.args.t ok)
+    omega (arith, c.room-room.ensures, allowance_small c.task.result.now.curve c.deref.result.now c.args.t ok)
 
 pub returns-clause-moment : goal.returns-clause-moment
 returns-clause-moment g c =
@@ -33,9 +33,9 @@ returns-clause-moment g c =
     let are =
     list_is c.args.o (length w.sheet.tasks) (run_of m) m.arrivals.items c.deref.result.now c.index.result.now
     c.requires.kept.arrivals c.requires.task c.index.ensures c.deref.ensures.value in
-    let is_room = room_is w c.args.o c.args.t (moment_of m) c.deref.result.now c.task.result.now c.allowance-room.result c.task.ensures.task are c.allowance-room.ensures in
+    let is_room = room_is w c.args.o c.args.t (moment_of m) c.deref.result.now c.task.result.now c.room-room.result c.task.ensures.task are c.room-room.ensures in
     let same =
-    arrived_by w c.args.o c.args.t (moment_of m) c.allowance-room.result c.draw_count-n.result c.draw_count-n.new.words
+    arrived_by w c.args.o c.args.t (moment_of m) c.room-room.result c.draw_count-n.result c.draw_count-n.new.words
     is_room c.draw_count-n.ensures.count c.draw_count-n.ensures.state in
     subst (λ (v : Moment). OnOk c.add_jobs.result (moment_of c.add_jobs.new.simulation ≡ v)) same c.add_jobs.ensures.moment
 
@@ -46,8 +46,8 @@ returns-clause-refusal g c =
     let are =
     list_is c.args.o (length w.sheet.tasks) (run_of m) m.arrivals.items c.deref.result.now c.index.result.now
     c.requires.kept.arrivals c.requires.task c.index.ensures c.deref.ensures.value in
-    let is_room = room_is w c.args.o c.args.t (moment_of m) c.deref.result.now c.task.result.now c.allowance-room.result c.task.ensures.task are c.allowance-room.ensures in
+    let is_room = room_is w c.args.o c.args.t (moment_of m) c.deref.result.now c.task.result.now c.room-room.result c.task.ensures.task are c.room-room.ensures in
     let same =
-    arrived_by w c.args.o c.args.t (moment_of m) c.allowance-room.result c.draw_count-n.result c.draw_count-n.new.words
+    arrived_by w c.args.o c.args.t (moment_of m) c.room-room.result c.draw_count-n.result c.draw_count-n.new.words
     is_room c.draw_count-n.ensures.count c.draw_count-n.ensures.state in
     subst (λ (v : Moment). IfErr c.add_jobs.result (IsRefusal v.run.jobs)) same c.add_jobs.ensures.refusal

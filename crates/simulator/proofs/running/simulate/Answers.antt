@@ -1,4 +1,4 @@
-use Rattle.std.proofs.Common.{◌≡◌, ℕ, ◌+◌, ◌<◌, length, None, sym, subst, arith, add-one}
+use Rattle.std.proofs.Common.{◌≡◌, ℕ, ◌+◌, ◌<◌, length, None, sym, ◌∙◌, subst, arith, add-one}
 use Rattle.std.proofs.lemmas.Result.{err_from_is_err_and}
 use Rattle.task_sheet.specs.Sheets.{task_at}
 use Rattle.run_model.specs.declared.run.Run.{Run}
@@ -8,9 +8,11 @@ use Rattle.simulated_run.specs.declared.mode.Mode.{Mode}
 use Rattle.simulated_run.specs.Laws.{IsDense}
 use Rattle.simulated_run.specs.SimulatedRun.{World, world_of, moment_after, simulated_run}
 use Rattle.simulator.specs.Simulations.{IsSimulation, refused_by}
+use Rattle.simulator.specs.AllOpenings.{HasGaps, AreOpenings}
 use Rattle.simulator.specs.SimulationState.{IsKept, world_by, moment_of, run_of}
 use Rattle.simulator.proofs.SimulationFacts.{simulated, simulated_is, refused, run_is}
 use Rattle.simulator.proofs.RunLimits.{kept_within}
+use Rattle.simulator.proofs.ShutFacts.{openings_start}
 use Rattle.simulator.proofs.running.simulate.Goals as goal
 
 pub returns-in_err-run_tick-clause-exact : goal.returns-in_err-run_tick-clause-exact
@@ -21,12 +23,27 @@ returns-in_err-run_tick-clause-exact g c =
     let exact : IsSimulation w c.args.n result = rw (p.1, p.2) (refused w c.args.n c.loop-t.t c.in_err-run_tick.field-0.0 (omega arith) c.in_err-run_tick.ensures.refusal) in
     subst (λ (sbf : ℕ → ℕ). IsSimulation (world_of w.policy w.cuts sbf w.sheet w.mode) c.args.n result) (sym c.requires.stated) exact
 
+pub loop-t-init : goal.loop-t-init
+loop-t-init g c =
+    let sheet = c.args.sheet.now in
+    let made = c.in_ok-openings.ensures in
+    let gaps : HasGaps sheet c.in_ok-openings.openings.gaps.items = record {
+      tasks = made.len ∙ c.len.ensures.len;
+      each = λ o d b. made.gaps o d (task_at sheet o).curve (omega (arith, b, c.len.ensures.len)) (c.in_ok-simulation.ensures.valid.each o b).curve;
+    } in
+    record {
+      moment = c.in_ok-simulation.ensures.moment;
+      kept = c.in_ok-simulation.ensures.kept;
+      openings = openings_start sheet (run_of c.in_ok-simulation.simulation) 0 c.len.result c.in_ok-openings.openings c.len.ensures.len made.ticks made.first gaps;
+    }
+
 pub loop-t-preserved : goal.loop-t-preserved
 loop-t-preserved g c =
     let w : World = world_by g.P.Policy.meaning g.M.Preemption.cuts c.args.sheet.now c.args.mode in
     let is : moment_of c.run_tick.new.simulation ≡ moment_after w (c.loop-t.t + 1) = rw add-one c.in_ok-run_tick.ensures.moment in
     let kept : IsKept w.policy w.cuts w.sheet (c.loop-t.t + 1) c.run_tick.new.simulation = rw add-one c.in_ok-run_tick.ensures.kept in
-    record { moment = is; kept = kept }
+    let openings : AreOpenings w.sheet (run_of c.run_tick.new.simulation) (c.loop-t.t + 1) c.run_tick.new.openings = rw add-one c.in_ok-run_tick.ensures.openings in
+    record { moment = is; kept = kept; openings = openings }
 
 pub returns : goal.returns
 returns g c =

@@ -1,11 +1,13 @@
 use Rattle.std.proofs.Common.{◌≡◌}
 use Rattle.simulated_run.specs.SimulatedRun.{arrive_below, moment_after}
-use Rattle.simulator.specs.SimulationState.{IsReady, world_by, moment_of}
-use Rattle.simulator.proofs.arrivals.arrive.Given as goal
+use Rattle.simulator.specs.SimulationState.{IsReady, world_by, moment_of, run_of}
+use Rattle.simulator.proofs.ShutFacts.{AreArriving}
+use Rattle.simulator.proofs.arrivals.arrive_each.Given as goal
 
 abbrev pub invariant-loop-o : goal.invariant-loop-o
 invariant-loop-o g l = record {
   moment : moment_of l.simulation ≡ arrive_below (world_by g.P.Policy.meaning g.M.Preemption.cuts l.sheet l.mode) l.t l.o
       (moment_after (world_by g.P.Policy.meaning g.M.Preemption.cuts l.sheet l.mode) l.t);
   kept : IsReady g.P.Policy.meaning g.M.Preemption.cuts l.sheet l.t l.simulation;
+  arriving : AreArriving l.sheet (run_of l.simulation) l.t l.o l.openings.ticks.items l.openings.gaps.items l.first;
 }

@@ -1,0 +1,48 @@
+use Rattle.std.proofs.Common.{◌≡◌, ℕ, ◌+◌, ◌<◌, length, refl, sym, ◌∙◌, ap, subst, arith, add-one}
+use Rattle.std.proofs.lemmas.Result.{err_from_is_err_and}
+use Rattle.simulated_run.specs.SimulatedRun.{World, Moment, moment_after, arrive_of, arrive_below}
+use Rattle.simulated_run.proofs.GrowthFacts.{BeginsWith, arrivals_extend}
+use Rattle.simulator.specs.SimulationState.{world_by, moment_of, run_of}
+use Rattle.simulator.proofs.ArrivalFacts.{refuses_tasks}
+use Rattle.simulator.proofs.ShutFacts.{arriving_start, arriving_next, arriving_end}
+use Rattle.simulator.proofs.arrivals.arrive_each.Goals as goal
+
+pub returns-in_err-next-clause-refusal : goal.returns-in_err-next-clause-refusal
+returns-in_err-next-clause-refusal g c =
+    let w : World = world_by g.P.Policy.meaning g.M.Preemption.cuts c.args.sheet.now c.args.mode in
+    let p = err_from_is_err_and c.from_residual.result c.from_residual.ensures.1 in
+    rw (p.1, p.2)
+    (refuses_tasks w c.args.t c.loop-o.o (length w.sheet.tasks) (moment_after w c.args.t) (moment_of c.loop-o.simulation)
+    c.in_err-next.field-0.0 (omega (arith, c.len-o-end.ensures.len)) c.loop-o.invariant.moment
+    c.in_err-next.ensures.refusal)
+
+pub loop-o-init : goal.loop-o-init
+loop-o-init g c = record {
+  moment = c.requires.stage;
+  kept = c.requires.kept;
+  arriving = arriving_start c.args.sheet.now (run_of c.args.simulation.now) c.args.t _ c.args.openings.now c.requires.openings;
+}
+
+pub loop-o-preserved : goal.loop-o-preserved
+loop-o-preserved g c =
+    let w : World = world_by g.P.Policy.meaning g.M.Preemption.cuts c.args.sheet.now c.args.mode in
+    let m = c.loop-o.simulation in
+    let later = c.arrive_from.new.simulation in
+    let b : c.loop-o.o < length w.sheet.tasks = omega (arith, c.len-o-end.ensures.len) in
+    let is : moment_of later ≡ arrive_below w c.args.t (c.loop-o.o + 1) (moment_after w c.args.t) =
+    rw add-one (c.in_ok-next.ensures.moment ∙ ap (arrive_of w c.loop-o.o c.args.t) c.loop-o.invariant.moment) in
+    let begins : BeginsWith (run_of later).jobs (run_of m).jobs =
+    subst (λ (v : Moment). BeginsWith v.run.jobs (run_of m).jobs) (sym c.in_ok-next.ensures.moment) (arrivals_extend w c.loop-o.o c.args.t (moment_of m)) in
+    record {
+      moment = is;
+      kept = c.in_ok-next.ensures.kept;
+      arriving =
+          arriving_next w.sheet (run_of m) (run_of later) c.args.t c.loop-o.o c.loop-o.first c.in_ok-next.next c.min-first.result
+          c.loop-o.openings.ticks.items c.loop-o.openings.gaps.items c.arrive_from.new.gaps b c.loop-o.invariant.arriving begins
+          c.in_ok-next.ensures.shut c.in_ok-next.ensures.gaps c.min-first.ensures;
+    }
+
+pub returns-clause-openings : goal.returns-clause-openings
+returns-clause-openings g c =
+    arriving_end c.args.sheet.now (run_of c.loop-o.simulation) c.args.t c.loop-o.o c.loop-o.first _ (omega (arith, c.len-o-end.ensures.len)) refl
+    c.loop-o.invariant.arriving

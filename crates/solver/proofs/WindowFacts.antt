@@ -1,14 +1,14 @@
 -- Tasks that ask for the same have the same windows.
-use Rattle.std.proofs.Common.{◌≡◌, ℕ, ◌+◌, ◌*◌, ◌<◌, ◌≤◌, Bool, Some, cond, length, ap, arith}
-use Rattle.lists.specs.Sums.{sum_below, max_below}
-use Rattle.lists.specs.Searches.{IsLeast, IsLeastTo}
+use Rattle.std.proofs.Common.{◌≡◌, ℕ, ◌+◌, ◌*◌, ◌<◌, Bool, Some, cond, length, ap, arith}
+use Rattle.lists.specs.Sums.{sum_below}
+use Rattle.lists.specs.Searches.{IsLeastTo}
 use Rattle.lists.proofs.SumFacts.{sum_same}
 use Rattle.curve.specs.Curves.{alpha_of}
 use Rattle.task_sheet.specs.SheetParts.{SheetParts}
 use Rattle.task_sheet.specs.Sheets.{task_at}
 use Rattle.policy.specs.PolicyMeaning.{PolicyMeaning}
 use Rattle.preemption.specs.CutMeaning.{CutMeaning}
-use Rattle.demand.specs.Demand.{class_part_of, delay_of, window_need_of}
+use Rattle.demand.specs.Demand.{class_part_of, window_need_of}
 use Rattle.demand.specs.Meeting.{IsWindow}
 use Rattle.solver.specs.Windows.{AskSame}
 

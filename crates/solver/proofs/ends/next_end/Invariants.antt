@@ -1,4 +1,4 @@
-use Rattle.std.proofs.Common.{◌≡◌, ℕ, ◌+◌, ◌-◌}
+use Rattle.std.proofs.Common.{◌≡◌, ◌+◌, ◌-◌}
 use Rattle.meter.specs.Meters.{meter_at}
 use Rattle.solver.specs.Ends.{HasNoEndBefore}
 use Rattle.solver.proofs.ends.next_end.Given as goal

@@ -1,6 +1,5 @@
-use Rattle.std.proofs.Common.{◌+◌, ◌-◌, ◌∷◌, [], ap, ◌∙◌, refl, arith, length-append}
+use Rattle.std.proofs.Common.{ap, ◌∙◌, refl, arith}
 use Rattle.task_sheet.specs.declared.tasks.Task.{Task}
-use Rattle.certificate.specs.Text.{point_of}
 use Rattle.meter.specs.Meters.{meter_at}
 use Rattle.solver.proofs.Least.{end_exists, bound_exists}
 use Rattle.solver.proofs.Listing.{so_far_first, so_far_more, so_far_last, so_far_many}

@@ -3,7 +3,7 @@ ghost use Rattle.std.specs.Prelude.{◌≡◌, ◌≤◌, ◌<◌, ◌^◌, leng
 ghost use Rattle.lists.specs.Limits.{greatest_number};
 ghost use Rattle.lists.specs.Searches.{IsFirstBelow};
 ghost use Rattle.preemption.specs.CutLaws.{Serves};
-ghost use Rattle.demand.specs.Demand.{need_of};
+ghost use Rattle.demand.specs.Demand.{blocking_of, need_of};
 ghost use Rattle.search_space.specs.Points.{IsPointAfter};
 ghost use Rattle.meter.specs.Meters.{meter_at};
 
@@ -132,6 +132,14 @@ impl<'a, P: Policy, M: Preemption> Meter<'a, P, M> {
         );
         self.offset = a;
         self.end = x;
+    }
+
+    /// The longest, in ticks, that a segment that began before the window can block a job of its
+    /// task that is released at its offset.
+    pub fn blocking(&self) -> u64
+        ensures { result ≡ blocking_of P.meaning M.cuts self.now.sheet self.now.task self.now.offset }
+    {
+        self.blocker.block
     }
 
     /// The demand of a job of its task that is released at its offset, in ticks, within its end.

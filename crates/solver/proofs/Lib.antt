@@ -1,5 +1,7 @@
 pub mod LawFacts
+pub mod Rises
 pub mod Jumps
+pub mod WindowFacts
 pub mod Listing
 pub mod Chain
 pub mod Least

@@ -69,6 +69,11 @@ module _ (p : PolicyMeaning) (m : CutMeaning) (sbf : ℕ → ℕ) (sheet : Sheet
             ));
       }
 
+  pub entries_counted : (i room count : ℕ) (entries : List Entry) (e : Entry) → EntriesSoFar p m sbf sheet horizon i room entries → IsBestUpTo p m sbf sheet horizon i e →
+      count ≡ length e.points → count ≤ room → EntriesSoFar p m sbf sheet horizon (i + 1) (room - count) (entries ++ e ∷ [])
+  entries_counted i room count entries e so_far best counted le =
+      entries_more i room count entries e so_far best (omega (arith, counted, ap length best.best.offsets, length-map e.points (λ (q : Point). q.offset))) le
+
   pub have_entries : (i room : ℕ) (entries : List Entry) → i < length sheet.tasks → EntriesSoFar p m sbf sheet horizon i room entries → HaveEntries p m sbf sheet horizon i entries
   have_entries i room entries l so_far = record { task = l; count = so_far.count; best = so_far.best; few = omega (arith, so_far.room_left) }
 

@@ -1,4 +1,4 @@
-use Rattle.std.proofs.Common.{◌≡◌, ℕ, zero, suc, ◌+◌, ◌-◌, ◌<◌, ◌≤◌, Bool, true, false, Some, None, Option, List, [], ◌∷◌, ◌++◌, length, map, refl, ap, sym, ◌∙◌, arith, add-suc, add-zero, append_assoc, max}
+use Rattle.std.proofs.Common.{◌≡◌, ℕ, zero, suc, ◌+◌, ◌-◌, ◌<◌, ◌≤◌, Bool, true, false, Some, None, Option, List, [], ◌∷◌, ◌++◌, length, map, refl, ap, sym, ◌∙◌, arith, add-suc, add-zero, append_assoc, length-append, max}
 use Rattle.std.specs.List.{AllByRecursion}
 use Rattle.std.proofs.lemmas.Bool.{false_from_ne_true}
 use Rattle.std.proofs.lemmas.List.{map-append, length-map}
@@ -126,6 +126,13 @@ module _ (p : PolicyMeaning) (m : CutMeaning) (sbf : ℕ → ℕ) (sheet : Sheet
 
     pub so_far_last : IsLeast (IsWindow p m sbf sheet i) window → IsNextPoint p sheet i a window None → IsBestEntry p m sbf sheet i (record { window = window; bound = max least bound; points = points ++ point_of a x ∷ []; terms = [] })
     so_far_last w n = record { window = w; offsets = offsets_last n; ends = each_push _ points (point_of a x) so_far.ends end; bound = bound_more points a x bound least so_far.least here; plain = refl }
+
+-- while one is still to be listed, there are more points than are listed
+pub so_far_many : (p : PolicyMeaning) (m : CutMeaning) (sbf : ℕ → ℕ) (sheet : SheetParts) (i window a bound : ℕ) (points : List Point) → SoFar p m sbf sheet i window a bound points →
+    length points < length (points_below p sheet i window)
+so_far_many p m sbf sheet i window a bound points so_far =
+    let offsets = map (λ (q : Point). q.offset) points in
+    omega (arith, ap length so_far.offsets, length-append offsets (points_from p sheet i window a), length-map points (λ (q : Point). q.offset), from_some p sheet i window a)
 
 pub points_some : (p : PolicyMeaning) (sheet : SheetParts) (i window : ℕ) (points : List Point) → 1 ≤ window → map (λ q. q.offset) points ≡ points_below p sheet i window → 1 ≤ length points
 points_some p sheet i window points one e = omega (arith, ap length e, length-map points (λ (q : Point). q.offset), ap length (from_first p sheet i window one), from_some p sheet i window 0)

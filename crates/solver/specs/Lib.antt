@@ -3,3 +3,5 @@ pub mod Points
 pub mod Best
 pub mod Outcome
 pub mod Answer
+pub mod Ends
+pub mod Windows

@@ -7,12 +7,13 @@ ghost use Rattle.conditions.specs.Conditions.{failed_of};
 ghost use Rattle.solver.specs.Best.{IsBest, HasCause, IsUpTo, NoneSmaller, NoneWhereNoBound};
 ghost use Rattle.solver.specs.Outcome.{IsBestAnswer};
 
-use crate::entries::{best_entry, count_points};
+use crate::entries::best_entry;
 use crate::laws::laws;
-use crate::searches::least_window;
+use crate::windows::next_window;
 use certificate::{Cert, Version};
 use lists::Items;
 use lists::limits::MOST_POINTS;
+use meter::Meter;
 use policy::Policy;
 use preemption::Preemption;
 use std::alloc::Global;
@@ -52,21 +53,27 @@ fn best_cert<P: Policy, M: Preemption, S: Supply>(
     ensures cause { IfErr result (HasCause P.meaning M.cuts (S.sbf supply.now) sheet.now horizon) }
 {
     laws::<P, M, S>(sheet, supply);
+    let Ok(mut meter) = Meter::<P, M>::new(alloc, sheet) else {
+        return Err(AnalyseRefusal::Memory);
+    };
     let mut entries = Vec::new(alloc);
     let mut room = MOST_POINTS;
+    let mut before = 0;
     for i in 0..sheet.len() {
-        let Some(window) = least_window::<P, M, S>(sheet, supply, i, horizon) else {
+        let Some(window) = next_window::<P, M, S>(sheet, supply, i, horizon, before) else {
             return Err(AnalyseRefusal::NoBound {
                 task: i,
                 part: Part::Window,
             });
         };
-        let Some(count) = count_points::<P>(sheet, i, window, room) else {
-            return Err(AnalyseRefusal::Points { task: i });
-        };
-        let Ok(entry) = best_entry::<P, M, S>(alloc, sheet, supply, i, window) else {
+        let found = best_entry::<P, M, S>(alloc, sheet, supply, i, window, room, &mut meter);
+        let Ok(within) = found else {
             return Err(AnalyseRefusal::Memory);
         };
+        let Some(entry) = within else {
+            return Err(AnalyseRefusal::Points { task: i });
+        };
+        let count = entry.points.len() as u64;
         if entry.bound > horizon {
             return Err(AnalyseRefusal::NoBound {
                 task: i,
@@ -77,6 +84,7 @@ fn best_cert<P: Policy, M: Preemption, S: Supply>(
             return Err(AnalyseRefusal::Memory);
         };
         room -= count;
+        before = window;
     }
     Ok(Cert {
         version: Version::One,

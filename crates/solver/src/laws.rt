@@ -1,6 +1,6 @@
 //! What the searches rest on.
 ghost use Rattle.preemption.specs.CutLaws.{Serves};
-ghost use Rattle.solver.specs.Laws.{Laws};
+ghost use Rattle.solver.specs.Laws.{Laws, NeedRises};
 
 use demand::{demand_grows, need_falls, need_fits};
 use policy::Policy;
@@ -22,3 +22,8 @@ pub fn laws<P: Policy, M: Preemption, S: Supply>(sheet: &Sheet, supply: &S)
     let _valid = sheet.len();
     supply.known();
 }
+
+/// From an offset to a later one at which as much blocks the need does not fall.
+pub fn need_rises<P: Policy, M: Preemption>()
+    ensures { NeedRises P.meaning M.cuts }
+{}

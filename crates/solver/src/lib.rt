@@ -2,10 +2,12 @@
 #![tactic(auto)]
 
 mod analysis;
+mod ends;
 mod entries;
 mod laws;
 mod meaning;
 mod searches;
+mod windows;
 
 pub use analysis::{AnalyseRefusal, Part, analyse};
 pub use meaning::analysis_has_one_answer;

@@ -2,10 +2,11 @@
 //!
 //! Each search jumps: what is asked for within a window is supplied at the soonest within the least
 //! window that supplies it, and no window between the two is enough.
-ghost use Rattle.std.specs.Prelude.{◌≤◌, ◌<◌, length};
+ghost use Rattle.std.specs.Prelude.{◌≡◌, ◌≤◌, ◌<◌, ◌+◌, length};
 ghost use Rattle.lists.specs.Limits.{greatest_number};
 ghost use Rattle.lists.specs.Searches.{IsLeastTo};
 ghost use Rattle.preemption.specs.CutLaws.{Serves};
+ghost use Rattle.demand.specs.Demand.{need_of, rest_of};
 ghost use Rattle.demand.specs.Meeting.{IsWindow, MeetsEnd, BoundMeets};
 
 use crate::laws::laws;
@@ -71,8 +72,36 @@ pub fn least_end<P: Policy, M: Preemption, S: Supply>(
 }
 
 /// The least bound in ticks up to the limit that meets `K2`, `K6` and `K8` for task `i` at offset
-/// `a`, whose end is `x`.
+/// `a`, whose end is `x`, and where a whole job asks for so many ticks.
 #[tactic(auto, using(task_sheet::specs::Limits::jitter_high))]
+pub fn bound_for<P: Policy, M: Preemption, S: Supply>(
+    sheet: &Sheet,
+    supply: &S,
+    i: u32,
+    a: u64,
+    x: u64,
+    wanted: u128,
+    limit: u64,
+) -> Option<u64>
+    requires task { i < length sheet.now.tasks }
+    requires offset { a ≤ greatest_number }
+    requires end { x ≤ greatest_number }
+    requires wanted { wanted ≡ need_of P.meaning M.cuts sheet.now i a x + rest_of M.cuts sheet.now i }
+    requires limit { limit ≤ 2000000000 }
+    requires served { Serves M.cuts sheet.now }
+    ensures { IsLeastTo (BoundMeets P.meaning M.cuts (S.sbf supply.now) sheet.now i a x) limit
+        result }
+{
+    laws::<P, M, S>(sheet, supply);
+    let Some(done) = supply.least(wanted, a + limit) else {
+        return None;
+    };
+    let bound = done.max(x).saturating_sub(a) + sheet.task(i).jitter;
+    if bound <= limit { Some(bound) } else { None }
+}
+
+/// The least bound in ticks up to the limit that meets `K2`, `K6` and `K8` for task `i` at offset
+/// `a`, whose end is `x`.
 pub fn least_bound<P: Policy, M: Preemption, S: Supply>(
     sheet: &Sheet,
     supply: &S,
@@ -89,11 +118,6 @@ pub fn least_bound<P: Policy, M: Preemption, S: Supply>(
     ensures { IsLeastTo (BoundMeets P.meaning M.cuts (S.sbf supply.now) sheet.now i a x) limit
         result }
 {
-    laws::<P, M, S>(sheet, supply);
     let wanted = need::<P, M>(sheet, i, a, x) + rest::<M>(sheet, i) as u128;
-    let Some(done) = supply.least(wanted, a + limit) else {
-        return None;
-    };
-    let bound = done.max(x).saturating_sub(a) + sheet.task(i).jitter;
-    if bound <= limit { Some(bound) } else { None }
+    bound_for::<P, M, S>(sheet, supply, i, a, x, wanted, limit)
 }

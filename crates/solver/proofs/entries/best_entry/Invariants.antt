@@ -1,9 +1,19 @@
-use Rattle.std.proofs.Common.{◌-◌}
+use Rattle.std.proofs.Common.{◌≡◌, ◌-◌}
+use Rattle.meter.specs.Meters.{meter_at}
+use Rattle.solver.specs.Ends.{HasNoEndBefore}
 use Rattle.solver.proofs.Listing.{SoFar}
 use Rattle.solver.proofs.entries.best_entry.Given as goal
 
-abbrev pub invariant-loop-end : goal.invariant-loop-end
-invariant-loop-end g l = SoFar g.P.Policy.meaning g.M.Preemption.cuts (g.S.Supply.sbf l.supply) l.sheet l.i l.window l.a l.bound l.points.items
+abbrev pub invariant-loop-points : goal.invariant-loop-points
+invariant-loop-points g l =
+    let p = g.P.Policy.meaning in
+    let m = g.M.Preemption.cuts in
+    let sbf = g.S.Supply.sbf l.supply in
+    record {
+      at : l.meter ≡ meter_at l.sheet l.i l.a l.begin;
+      before : HasNoEndBefore p m sbf l.sheet l.i l.a l.begin;
+      so_far : SoFar p m sbf l.sheet l.i l.window l.a l.bound l.points.items;
+    }
 
-abbrev pub decreases-loop-end : goal.decreases-loop-end
-decreases-loop-end g l = l.window - l.a
+abbrev pub decreases-loop-points : goal.decreases-loop-points
+decreases-loop-points g l = l.window - l.a

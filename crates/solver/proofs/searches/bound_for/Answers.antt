@@ -1,7 +1,7 @@
 use Rattle.std.proofs.Common.{arith, ap}
 use Rattle.task_sheet.specs.declared.tasks.Task.{Task}
 use Rattle.solver.proofs.Jumps.{bound_here}
-use Rattle.solver.proofs.searches.least_bound.Goals as goal
+use Rattle.solver.proofs.searches.bound_for.Goals as goal
 
 pub returns-then-bound-limit : goal.returns-then-bound-limit
 returns-then-bound-limit g c = (

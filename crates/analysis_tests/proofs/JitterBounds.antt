@@ -50,7 +50,8 @@ unfolding task_rule most_jitter most_point
 blocking_valid = valid_from_rules Fifo Whole (task_u ∷ task_v ∷ []) blocking_curves refl (omega arith) (omega arith) refl
 
 -- a bound below the jitter fails K2
-below_the_jitter : failed_of fp_meaning per_task_meaning all_supplied (late_sheet 3) false (record { version = One; entries = record { window = 2; bound = 2; points = []; terms = [] } ∷ [] }) ≡ Some (of_task 0 K2)
+below_the_jitter : failed_of fp_meaning per_task_meaning all_supplied (late_sheet 3) false
+    (record { version = One; entries = record { window = 2; bound = 2; points = []; terms = [] } ∷ [] }) ≡ Some (of_task 0 K2)
 unfolding failed_of task_failed_of
 below_the_jitter = refl
 
@@ -67,20 +68,26 @@ unfolding failed_of task_failed_of window_need_of need_of own_of others_of block
 blocking_meets = refl
 
 -- the theorem at task i of a sheet, whose certificate meets the conditions
-at_task : (p : PolicyMeaning) (m : CutMeaning) (sbf : ℕ → ℕ) (sheet : SheetParts) (cert : Cert) (i : ℕ) → PointsBound p m sbf → FailedMeans p m sbf → IsValidSheet sheet → Serves m sheet → i < length sheet.tasks →
+at_task : (p : PolicyMeaning) (m : CutMeaning) (sbf : ℕ → ℕ) (sheet : SheetParts) (cert : Cert) (i : ℕ) → PointsBound p m sbf →
+    FailedMeans p m sbf → IsValidSheet sheet → Serves m sheet → i < length sheet.tasks →
     1 ≤ length (pairs_of (entry_at cert i).points) → failed_of p m sbf sheet false cert ≡ None → IsBounded p m sbf sheet i (entry_at cert i).bound
 at_task p m sbf sheet cert i law means valid served listed some none =
     let task = ((means sheet false cert).0 none).tasks i listed in
-    law sheet valid served i (entry_at cert i).window (entry_at cert i).bound (pairs_of (entry_at cert i).points) listed task.covers task.window some task.points
+    law sheet valid served i (entry_at cert i).window (entry_at cert i).bound
+    (pairs_of (entry_at cert i).points) listed task.covers task.window some task.points
 
-pub late_by_3 : PointsBound fp_meaning per_task_meaning (λ d. d) → FailedMeans fp_meaning per_task_meaning (λ d. d) → IsBounded fp_meaning per_task_meaning (λ d. d) (late_sheet 3) 0 5
+pub late_by_3 : PointsBound fp_meaning per_task_meaning (λ d. d) → FailedMeans fp_meaning per_task_meaning (λ d. d) →
+    IsBounded fp_meaning per_task_meaning (λ d. d) (late_sheet 3) 0 5
 late_by_3 law means = at_task _ _ _ (late_sheet 3) one_point 0 law means late_3_valid (λ o l. refl) (omega arith) (omega arith) one_point_meets
 
-pub late_by_4 : PointsBound fp_meaning per_task_meaning (λ d. d) → FailedMeans fp_meaning per_task_meaning (λ d. d) → IsBounded fp_meaning per_task_meaning (λ d. d) (late_sheet 4) 0 7
+pub late_by_4 : PointsBound fp_meaning per_task_meaning (λ d. d) → FailedMeans fp_meaning per_task_meaning (λ d. d) →
+    IsBounded fp_meaning per_task_meaning (λ d. d) (late_sheet 4) 0 7
 late_by_4 law means = at_task _ _ _ (late_sheet 4) two_points 0 law means late_4_valid (λ o l. refl) (omega arith) (omega arith) two_points_meet
 
-pub blocked : PointsBound fifo_meaning per_task_meaning (λ d. d) → FailedMeans fifo_meaning per_task_meaning (λ d. d) → IsBounded fifo_meaning per_task_meaning (λ d. d) blocking_sheet 0 8
+pub blocked : PointsBound fifo_meaning per_task_meaning (λ d. d) → FailedMeans fifo_meaning per_task_meaning (λ d. d) →
+    IsBounded fifo_meaning per_task_meaning (λ d. d) blocking_sheet 0 8
 blocked law means = at_task _ _ _ blocking_sheet blocking_cert 0 law means blocking_valid (λ o l. refl) (omega arith) (omega arith) blocking_meets
 
-pub blocking : PointsBound fifo_meaning per_task_meaning (λ d. d) → FailedMeans fifo_meaning per_task_meaning (λ d. d) → IsBounded fifo_meaning per_task_meaning (λ d. d) blocking_sheet 1 4
+pub blocking : PointsBound fifo_meaning per_task_meaning (λ d. d) → FailedMeans fifo_meaning per_task_meaning (λ d. d) →
+    IsBounded fifo_meaning per_task_meaning (λ d. d) blocking_sheet 1 4
 blocking law means = at_task _ _ _ blocking_sheet blocking_cert 1 law means blocking_valid (λ o l. refl) (omega arith) (omega arith) blocking_meets

@@ -37,4 +37,8 @@ abbrev pub blocking_sheet : SheetParts
 blocking_sheet = record { policy = Fifo; supply = Whole; tasks = task_u ∷ task_v ∷ [] }
 
 abbrev pub blocking_cert : Cert
-blocking_cert = record { version = One; entries = record { window = 6; bound = 8; points = point_of 0 6 ∷ []; terms = [] } ∷ record { window = 4; bound = 4; points = point_of 0 2 ∷ []; terms = [] } ∷ [] }
+blocking_cert = record {
+  version = One;
+  entries =
+      record { window = 6; bound = 8; points = point_of 0 6 ∷ []; terms = [] } ∷ record { window = 4; bound = 4; points = point_of 0 2 ∷ []; terms = [] } ∷ [];
+}

@@ -16,7 +16,17 @@ use Rattle.solver.specs.Outcome.{best_of}
 
 -- a task whose deadline is its period
 abbrev pub pointed : List ℕ → ℕ → ℕ → ℕ → ℤ → Task
-pointed name cost period priority point = record { name = name; cost = cost; deadline = period; priority = priority; jitter = 0; point = point; curve = periodic period; cut = Full }
+pointed name cost period priority point = record {
+  name = name;
+  cost = cost;
+  deadline = period;
+  priority = priority;
+  jitter =
+      0;
+  point = point;
+  curve = periodic period;
+  cut = Full;
+}
 
 -- two tasks whose points are their deadlines
 abbrev pub gel_sheet : SheetParts
@@ -31,7 +41,12 @@ gel_cert = record {
 
 -- a task of the greater priority, and two of one priority, of which b has the earlier point
 abbrev pub elf_sheet : SheetParts
-elf_sheet = record { policy = Elf; supply = Whole; tasks = pointed (codes "a") 1 4 2 (pos 0) ∷ pointed (codes "b") 2 8 1 (pos 4) ∷ pointed (codes "c") 2 8 1 (pos 6) ∷ [] }
+elf_sheet = record {
+  policy = Elf;
+  supply = Whole;
+  tasks = pointed (codes "a") 1 4 2 (pos 0) ∷ pointed (codes "b") 2 8 1
+      (pos 4) ∷ pointed (codes "c") 2 8 1 (pos 6) ∷ [];
+}
 
 abbrev pub elf_cert : Cert
 elf_cert = record {

@@ -1,6 +1,8 @@
 -- The first tick that is not valid, the first crowded job and the first short window.
-use Rattle.std.proofs.Common.{◌≡◌, ℕ, zero, suc, ◌+◌, ◌-◌, ◌<◌, ◌≤◌, ◌==◌, ◌&&◌, Bool, true, false, not, length, Some, None, refl, sym, ◌∙◌, ap, inl, inr, arith}
-use Rattle.std.proofs.lemmas.Bool.{and_parts, and_from, both_ways, false_from_ne_true, true_from_ne_false, not-true, not_from_true, not_from_false, eqb-true, eq-eqb}
+use Rattle.std.proofs.Common.{◌≡◌, ℕ, zero, suc, ◌+◌, ◌-◌, ◌<◌, ◌≤◌, ◌==◌, ◌&&◌, Bool, true, false, not, length, Some, None, refl, sym, ◌∙◌, ap, inl}
+use Rattle.std.proofs.Common.{inr, arith}
+use Rattle.std.proofs.lemmas.Bool.{and_parts, and_from, both_ways, false_from_ne_true, true_from_ne_false, not-true, not_from_true, not_from_false}
+use Rattle.std.proofs.lemmas.Bool.{eqb-true, eq-eqb}
 use Rattle.lists.specs.Searches.{IsFirstBelow}
 use Rattle.lists.proofs.FirstFacts.{none_from, none_below, first_stays, must_from, must_holds, must_fails}
 use Rattle.lists.proofs.SumFacts.{max_at_least}
@@ -104,8 +106,10 @@ pub crowded_some : (sheet : SheetParts) (run : Run) (k : ℕ) → IsFirstCrowded
     crowded_in sheet run ≡ Some (fault_at rule.Curve k (job_at run k).arrival)
 unfolding crowded_in
 crowded_some sheet run k first =
-    found_some rule.Curve (crowd_at sheet run) (last_arrival run + 1) (length run.jobs) (job_at run k).arrival k (arrives_within run k first.0) first.0 (crowd_to sheet run k first.1)
-    (λ s n b c. false_from_ne_true (crowd_at sheet run s n) (λ h. let w = crowd_from sheet run s n h in omega (arith, w.0, no_earlier run k n (first.2 n c w.1))))
+    found_some rule.Curve (crowd_at sheet run) (last_arrival run + 1) (length run.jobs) (job_at run k).arrival k
+    (arrives_within run k first.0) first.0 (crowd_to sheet run k first.1)
+    (λ s n b c. false_from_ne_true (crowd_at sheet run s n)
+    (λ h. let w = crowd_from sheet run s n h in omega (arith, w.0, no_earlier run k n (first.2 n c w.1))))
     (λ n b. false_from_ne_true (crowd_at sheet run (job_at run k).arrival n) (λ h.
     let listed = first.0 in
     let w = crowd_from sheet run (job_at run k).arrival n h in
@@ -156,7 +160,8 @@ module _ (sbf : ℕ → ℕ) (run : Run) where
   unfolding short_in
   short_some t starts first =
       let e : t + 1 - 1 ≡ t = omega arith in
-      first_fails enough_at shortage_at (length run.ticks + 1) (t + 1) (omega (arith, first.0)) (not_from_true (is_short sbf run (t + 1)) first.1) (enough_to starts t first.2) ∙ ap (λ (w : ℕ). Some (shortage w)) e
+      first_fails enough_at shortage_at (length run.ticks + 1) (t + 1) (omega (arith, first.0))
+      (not_from_true (is_short sbf run (t + 1)) first.1) (enough_to starts t first.2) ∙ ap (λ (w : ℕ). Some (shortage w)) e
 
   pub short_none : sbf 0 ≡ 0 → IsFirstBelow (λ s. is_short sbf run (s + 1) ≡ true) (length run.ticks) None →
       short_in sbf run ≡ None

@@ -54,7 +54,9 @@ module _ (run : Run) (arrivals order : List Arrival) (given : AreFirstArrivals r
   all_arrivals : All (IsArrival run) order
   all_arrivals =
       All-permutation (IsArrival run) arrivals order moved
-      (All-from_get_or (IsArrival run) arrivals no_arrival (λ k b. subst (IsArrival run) (sym (given.each k (omega (arith, given.count)))) (record { listed = omega (arith, given.count); tick = refl; release = refl })))
+      (All-from_get_or (IsArrival run) arrivals no_arrival
+      (λ k b. subst (IsArrival run) (sym (given.each k (omega (arith, given.count))))
+      (record { listed = omega (arith, given.count); tick = refl; release = refl })))
 
   placed : (k : ℕ) → k < length run.jobs → HasPlace order k
   placed k b =

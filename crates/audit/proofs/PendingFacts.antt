@@ -1,7 +1,9 @@
 -- Which jobs are pending, by those that have come and are not done.
-use Rattle.std.proofs.Common.{◌≡◌, ◌≢◌, ℕ, zero, suc, ◌+◌, ◌<◌, ◌≤◌, ◌==◌, ◌&&◌, ◌||◌, not, Bool, true, false, cond, List, length, get_or, Option, Some, None, refl, sym, ◌∙◌, ap, subst, inl, inr, arith, add-one, leb, ltb}
+use Rattle.std.proofs.Common.{◌≡◌, ◌≢◌, ℕ, zero, suc, ◌+◌, ◌<◌, ◌≤◌, ◌==◌, ◌&&◌, ◌||◌, not, Bool, true, false, cond, List, length, get_or, Option}
+use Rattle.std.proofs.Common.{Some, None, refl, sym, ◌∙◌, ap, subst, inl, inr, arith, add-one, leb, ltb}
 use Rattle.std.specs.BTreeMap.{BTreeMap}
-use Rattle.std.proofs.lemmas.Bool.{cases_Bool, cases_lt, both_ways, or_left, or_right, or_cases, false_from_ne_true, leb-true, leb-false, le-leb, lt-ltb, eqb-true, eq-eqb}
+use Rattle.std.proofs.lemmas.Bool.{cases_Bool, cases_lt, both_ways, or_left, or_right, or_cases, false_from_ne_true, leb-true, leb-false, le-leb}
+use Rattle.std.proofs.lemmas.Bool.{lt-ltb, eqb-true, eq-eqb}
 use Rattle.std.proofs.lemmas.Bool.Decides.{nat_tests}
 use Rattle.task_sheet.specs.SheetParts.{SheetParts}
 use Rattle.task_sheet.specs.declared.tasks.Job.{Job}
@@ -86,7 +88,12 @@ module _ (run : Run) (coming : List Arrival) (i t : ℕ) where
       leave_bool (k == j) (is_among coming i k) (is_done run k t) (is_done run k (suc t)) w
       (λ e. is ∙ ap (λ n. is_done run n (suc t)) (sym (eqb-true k j e)))
       (λ e undone. false_from_ne_true (is_done run k t) (λ d.
-      omega (arith, leb-true (job_at run k).cost (service_of run k t) d, leb-false (job_at run k).cost (service_of run k (suc t)) undone, service_le run k t (suc t) (omega arith) (omega arith))))
+      omega (
+        arith,
+        leb-true (job_at run k).cost (service_of run k t) d,
+        leb-false (job_at run k).cost (service_of run k (suc t)) undone,
+        service_le run k t (suc t) (omega arith) (omega arith),
+      )))
       (λ other. elim (step_cases run k t b) [
         | inl stays ↦ stays_done k stays.same
         | inr gains ↦ absurd (both_ways (k == j) other (eq-eqb k j (same_job k j (tick_at run t) gains.is runs)))
@@ -118,7 +125,13 @@ module _ (p : PolicyMeaning) (sheet : SheetParts) (run : Run) (t : ℕ) (served 
             let listed = come.ordered.listed at.place at.within in
             elim (cases_lt at.place next) [
               | inl c ↦ both_ways (is_among coming next k) h (among_to coming next k at.place c at.is)
-              | inr c ↦ omega (arith, ready.ahead at.place c at.within, listed.release, ap (λ n. (job_at run n).release) at.is, leb-true (job_at run k).release t r)
+              | inr c ↦ omega (
+                arith,
+                ready.ahead at.place c at.within,
+                listed.release,
+                ap (λ n. (job_at run n).release) at.is,
+                leb-true (job_at run k).release t r,
+              )
             ])
             ∙ sym h
       ]
@@ -183,7 +196,8 @@ module _ (p : PolicyMeaning) (sheet : SheetParts) (run : Run) (t : ℕ) (served 
       IsServed run (t + 1) after → HasCome p sheet run (t + 1) after coming next queue
   come_quiet after next queue b none come counted =
       come_after after next queue queue come counted
-      (queue_same p sheet run.jobs (is_waiting run coming next t) (is_waiting run coming next (suc t)) queue (λ k c. quiet run coming next t k b none) come.waiting)
+      (queue_same p sheet run.jobs (is_waiting run coming next t) (is_waiting run coming next (suc t)) queue
+      (λ k c. quiet run coming next t k b none) come.waiting)
 
   pub come_ran : (after : List ℕ) (next j : ℕ) (w : Bool) (queue other : BTreeMap Rank ℕ) → t < length run.ticks →
       tick_at run t ≡ Runs j → j < length run.jobs → w ≡ not (ltb (get_or after j 0) (job_at run j).cost) →

@@ -1,6 +1,8 @@
 -- What the greatest releases so far say of the rule on releases.
-use Rattle.std.proofs.Common.{◌≡◌, ◌≢◌, ℕ, ◌+◌, ◌<◌, ◌≤◌, ◌==◌, ◌&&◌, ◌⊎◌, Bool, true, false, cond, min, max, List, length, get_or, replicate, Option, Some, None, sym, ◌∙◌, ap, subst, inl, inr, arith, leb, ltb}
-use Rattle.std.proofs.lemmas.Bool.{cases_Bool, cases_lt, cases_eq, and_parts, and_from, both_ways, false_from_ne_true, leb-true, le-leb, ltb-true, lt-ltb, eqb-true, eq-eqb}
+use Rattle.std.proofs.Common.{◌≡◌, ◌≢◌, ℕ, ◌+◌, ◌<◌, ◌≤◌, ◌==◌, ◌&&◌, ◌⊎◌, Bool, true, false, cond, min, max, List, length, get_or, replicate, Option}
+use Rattle.std.proofs.Common.{Some, None, sym, ◌∙◌, ap, subst, inl, inr, arith, leb, ltb}
+use Rattle.std.proofs.lemmas.Bool.{cases_Bool, cases_lt, cases_eq, and_parts, and_from, both_ways, false_from_ne_true, leb-true, le-leb, ltb-true}
+use Rattle.std.proofs.lemmas.Bool.{lt-ltb, eqb-true, eq-eqb}
 use Rattle.std.proofs.lemmas.List.{get_or-set_same, get_or-set_other, length-set, length-replicate, get_or-replicate}
 use Rattle.std.proofs.Math.ListN.{set}
 use Rattle.lists.specs.Searches.{IsFirstBelow}
@@ -88,12 +90,14 @@ module _ (sheet : SheetParts) (run : Run) (order : List Arrival) (ordered : IsOr
       elim (cases_Bool (is_timely sheet (job_at run k))) [
         | inr untimely ↦ untimely_breaks sheet run k untimely
         | inl timely ↦ elim (cases_lt (job_at run k).release latest) [
-          | inr c ↦ absurd (both_ways _ h (and_from (is_timely sheet (job_at run k)) (leb latest (job_at run k).release) timely (le-leb latest (job_at run k).release c)))
+          | inr c ↦ absurd (both_ways _ h (and_from (is_timely sheet (job_at run k)) (leb latest (job_at run k).release) timely
+              (le-leb latest (job_at run k).release c)))
           | inl c ↦
               let passed = is.reached (job_at run k).release c in
               let p = passed.place in
               overtaken_breaks sheet run k (arrival_at order p).job (ordered.listed p (omega (arith, passed.before))).listed
-              (overtaken_to run k (arrival_at order p).job (record { same = passed.task; earlier = arrives_earlier p i passed.before b passed.later; later = passed.later }))
+              (overtaken_to run k (arrival_at order p).job
+              (record { same = passed.task; earlier = arrives_earlier p i passed.before b passed.later; later = passed.later }))
         ]
       ]
 
@@ -113,7 +117,8 @@ module _ (sheet : SheetParts) (run : Run) (order : List Arrival) (ordered : IsOr
   free_more i (Some k) free h = (
     h.0,
     h.1,
-    (λ p c. spread i p (λ q. is_release_broken sheet run (arrival_at order q).job ≡ true → k ≤ (arrival_at order q).job) h.2 (λ broken. absurd (both_ways _ free broken)) c),
+    (λ p c. spread i p (λ q. is_release_broken sheet run (arrival_at order q).job ≡ true → k ≤ (arrival_at order q).job) h.2
+        (λ broken. absurd (both_ways _ free broken)) c),
   )
 
   min_is : (n k : ℕ) → (min n k ≡ n) × (n ≤ k) ⊎ (min n k ≡ k) × (k ≤ n)
@@ -126,7 +131,8 @@ module _ (sheet : SheetParts) (run : Run) (order : List Arrival) (ordered : IsOr
   broken_more i None b broken h = (
     (ordered.listed i b).listed,
     broken,
-    (λ p c. spread i p (λ q. is_release_broken sheet run (arrival_at order q).job ≡ true → (arrival_at order i).job ≤ (arrival_at order q).job) (λ q d bad. absurd (both_ways _ (h q d) bad)) (λ bad. omega arith) c),
+    (λ p c. spread i p (λ q. is_release_broken sheet run (arrival_at order q).job ≡ true →
+        (arrival_at order i).job ≤ (arrival_at order q).job) (λ q d bad. absurd (both_ways _ (h q d) bad)) (λ bad. omega arith) c),
   )
   broken_more i (Some n) b broken h =
       let k = (arrival_at order i).job in
@@ -143,7 +149,8 @@ module _ (sheet : SheetParts) (run : Run) (order : List Arrival) (ordered : IsOr
             subst (λ m. IsLeastBroken sheet run order (i + 1) (Some m)) (sym least.0) (
               (ordered.listed i b).listed,
               broken,
-              (λ p c. spread i p (λ q. is_release_broken sheet run (arrival_at order q).job ≡ true → k ≤ (arrival_at order q).job) (λ q d bad. omega (arith, h.2 q d bad, less)) (λ bad. omega arith) c),
+              (λ p c. spread i p (λ q. is_release_broken sheet run (arrival_at order q).job ≡ true → k ≤ (arrival_at order q).job)
+                  (λ q d bad. omega (arith, h.2 q d bad, less)) (λ bad. omega arith) c),
             )
       ]
 
@@ -165,7 +172,8 @@ module _ (sheet : SheetParts) (run : Run) (order : List Arrival) (ordered : IsOr
   least_more i o before latest least r ok b c own at all is result h =
       let mine = subst (λ t. IsLatest run order i t (get_or latest o 0)) own (all o c) in
       subst (IsLeastBroken sheet run order (i + 1)) (sym result)
-      (least_by i (get_or latest o 0) least ok b mine (is ∙ ap (λ (n : ℕ). is_timely sheet (job_at run (arrival_at order i).job) && leb n (job_at run (arrival_at order i).job).release) at) h)
+      (least_by i (get_or latest o 0) least ok b mine
+      (is ∙ ap (λ (n : ℕ). is_timely sheet (job_at run (arrival_at order i).job) && leb n (job_at run (arrival_at order i).job).release) at) h)
 
   -- past the last place
   pub least_all : (i : ℕ) (least : Option ℕ) → length order ≤ i → IsLeastBroken sheet run order i least →
@@ -213,11 +221,14 @@ module _ (run : Run) (order : List Arrival) where
       AreLatest run order i latest → AreLatest run order (i + 1) (set latest o new)
   latest_more i o new latest b own is all q c = elim (cases_eq q o) [
     | inl e ↦
-        let at : get_or (set latest o new) o 0 ≡ max (get_or latest o 0) (job_at run (arrival_at order i).job).release = get_or-set_same latest o new 0 b ∙ is in
-        subst (λ w. IsLatest run order (i + 1) w (get_or (set latest o new) w 0)) (sym e) (subst (IsLatest run order (i + 1) o) (sym at) (latest_own i o (get_or latest o 0) own (all o b)))
+        let at : get_or (set latest o new) o 0 ≡ max (get_or latest o 0) (job_at run (arrival_at order i).job).release =
+        get_or-set_same latest o new 0 b ∙ is in
+        subst (λ w. IsLatest run order (i + 1) w (get_or (set latest o new) w 0)) (sym e)
+        (subst (IsLatest run order (i + 1) o) (sym at) (latest_own i o (get_or latest o 0) own (all o b)))
     | inr ne ↦
         let at : get_or (set latest o new) q 0 ≡ get_or latest q 0 = get_or-set_other latest o q new 0 ne in
-        subst (IsLatest run order (i + 1) q) (sym at) (latest_same i q (get_or latest q 0) (λ e. ne (sym e ∙ own)) (all q (omega (arith, length-set latest o new))))
+        subst (IsLatest run order (i + 1) q) (sym at)
+        (latest_same i q (get_or latest q 0) (λ e. ne (sym e ∙ own)) (all q (omega (arith, length-set latest o new))))
   ]
 
   pub latest_none : (n : ℕ) (latest : List ℕ) → latest ≡ replicate n 0 → AreLatest run order 0 latest

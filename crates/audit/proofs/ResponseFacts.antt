@@ -1,5 +1,6 @@
 -- The response times of the jobs, one tick later, and what is seen of a task.
-use Rattle.std.proofs.Common.{◌≡◌, ◌≢◌, ℕ, suc, ◌+◌, ◌-◌, ◌<◌, ◌≤◌, ◌&&◌, Bool, true, false, not, cond, max, List, length, get_or, Option, Some, None, refl, sym, ◌∙◌, ap, subst, inl, inr, arith, add-one, replicate, leb}
+use Rattle.std.proofs.Common.{◌≡◌, ◌≢◌, ℕ, suc, ◌+◌, ◌-◌, ◌<◌, ◌≤◌, ◌&&◌, Bool, true, false, not, cond, max, List, length, get_or, Option, Some, None}
+use Rattle.std.proofs.Common.{refl, sym, ◌∙◌, ap, subst, inl, inr, arith, add-one, replicate, leb}
 use Rattle.std.proofs.lemmas.Bool.{cases_eq, not_from_true, not_from_false, leb-true, leb-false, le-leb, eq-eqb, ne_eqb}
 use Rattle.std.proofs.lemmas.List.{get_or-set_same, get_or-set_other, length-set, length-replicate, get_or-replicate}
 use Rattle.std.proofs.Math.ListN.{set}
@@ -34,7 +35,10 @@ not_yet : (run : Run) (k t : ℕ) → t ≤ length run.ticks → is_done run k t
 unfolding done_before
 not_yet run k t b d =
     none_from (λ u. must (not (is_done run k u)) u) (suc t)
-    (λ u c. must_from (not (is_done run k u)) u (not_from_false (is_done run k u) (undone (job_at run k).cost (service_of run k u) (omega (arith, leb-false (job_at run k).cost (service_of run k t) d, service_le run k u t (omega arith) b)))))
+    (λ u c. must_from (not (is_done run k u)) u
+    (not_from_false (is_done run k u)
+    (undone (job_at run k).cost (service_of run k u)
+    (omega (arith, leb-false (job_at run k).cost (service_of run k t) d, service_le run k u t (omega arith) b)))))
 
 -- what becomes done at t + 1
 done_now : (run : Run) (k t : ℕ) → t ≤ length run.ticks → is_done run k t ≡ false → is_done run k (suc t) ≡ true →
@@ -100,7 +104,8 @@ responses_finish run t j responses b valid is done rs =
       count = length-set responses j (Some (suc t - (job_at run j).arrival)) ∙ rs.count;
       each = λ k c. elim (cases_eq k j) [
         | inr ne ↦
-            let at : get_or (set responses j (Some (suc t - (job_at run j).arrival))) k None ≡ get_or responses k None = get_or-set_other responses j k (Some (suc t - (job_at run j).arrival)) None ne in
+            let at : get_or (set responses j (Some (suc t - (job_at run j).arrival))) k None ≡ get_or responses k None =
+            get_or-set_other responses j k (Some (suc t - (job_at run j).arrival)) None ne in
             subst (IsResponse run (suc t) k) (sym at)
             (elim (step_cases run k t b) [
               | inl stays ↦ kept run k t (get_or responses k None) stays.same (rs.each k c)
@@ -138,7 +143,8 @@ undone_response run k d = rw add-one (ap (since (job_at run k).arrival) (not_yet
 
 abbrev Counts : Run → ℕ → ℕ → Bool → Bool → ℕ → Type 0
 Counts run i k own done worst =
-    seen_among run i (suc k) ≡ seen_with ((seen_among run i k).jobs + cond own 1 0) ((seen_among run i k).done + cond (own && done) 1 0) (max (seen_among run i k).worst (cond own worst 0))
+    seen_among run i (suc k) ≡ seen_with ((seen_among run i k).jobs + cond own 1 0)
+    ((seen_among run i k).done + cond (own && done) 1 0) (max (seen_among run i k).worst (cond own worst 0))
 
 counted : (run : Run) (i k : ℕ) → Counts run i k (is_of run i k) (is_done run k (length run.ticks)) (response_of run k)
 unfolding seen_among
@@ -147,7 +153,9 @@ counted run i k = refl
 counted_as : (run : Run) (i k : ℕ) (own done : Bool) (worst : ℕ) → is_of run i k ≡ own →
     is_done run k (length run.ticks) ≡ done → response_of run k ≡ worst → Counts run i k own done worst
 counted_as run i k own done worst p q r =
-    subst (λ w. Counts run i k own done w) r (subst (λ w. Counts run i k own w (response_of run k)) q (subst (λ w. Counts run i k w (is_done run k (length run.ticks)) (response_of run k)) p (counted run i k)))
+    subst (λ w. Counts run i k own done w) r
+    (subst (λ w. Counts run i k own w (response_of run k)) q
+    (subst (λ w. Counts run i k w (is_done run k (length run.ticks)) (response_of run k)) p (counted run i k)))
 
 max_zero : (n : ℕ) → max n 0 ≡ n
 max_zero n = omega arith
@@ -155,12 +163,14 @@ max_zero n = omega arith
 more_of : (run : Run) (i k : ℕ) (r : Option ℕ) → (job_at run k).task ≡ i → IsResponse run (length run.ticks) k r →
     with_response (seen_among run i k) r ≡ seen_among run i (suc k)
 more_of run i k None own h =
-    sym (counted_as run i k true false 0 (eq-eqb (job_at run k).task i own) h (undone_response run k h) ∙ same_seen _ _ _ _ _ _ refl (omega arith) (max_zero (seen_among run i k).worst))
+    sym (counted_as run i k true false 0 (eq-eqb (job_at run k).task i own) h (undone_response run k h) ∙
+    same_seen _ _ _ _ _ _ refl (omega arith) (max_zero (seen_among run i k).worst))
 more_of run i k (Some x) own h = sym (counted_as run i k true true x (eq-eqb (job_at run k).task i own) h.0 h.1)
 
 other_of : (run : Run) (i k : ℕ) → ((job_at run k).task ≢ i) → seen_among run i k ≡ seen_among run i (suc k)
 other_of run i k ne =
-    sym (counted_as run i k false (is_done run k (length run.ticks)) (response_of run k) (ne_eqb (job_at run k).task i ne) refl refl ∙ same_seen _ _ _ _ _ _ (omega arith) (omega arith) (max_zero (seen_among run i k).worst))
+    sym (counted_as run i k false (is_done run k (length run.ticks)) (response_of run k)
+    (ne_eqb (job_at run k).task i ne) refl refl ∙ same_seen _ _ _ _ _ _ (omega arith) (omega arith) (max_zero (seen_among run i k).worst))
 
 -- a job of the task
 pub seen_more : (run : Run) (i k : ℕ) (r : Option ℕ) → (job_at run k).task ≡ i →

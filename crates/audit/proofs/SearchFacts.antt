@@ -21,7 +21,8 @@ module _ (test : ℕ → Bool) (f : ℕ → Fault) (n : ℕ) where
   pub first_fails : (k : ℕ) → k < n → test k ≡ false → ((i : ℕ) → i < k → test i ≡ true) →
       first_below (λ i. must (test i) (f i)) n ≡ Some (f k)
   first_fails k b out before =
-      first_stays (λ i. must (test i) (f i)) (f k) n k b (none_from (λ i. must (test i) (f i)) k (λ i c. must_from (test i) (f i) (before i c))) (must_fails (test k) (f k) out)
+      first_stays (λ i. must (test i) (f i)) (f k) n k b
+      (none_from (λ i. must (test i) (f i)) k (λ i c. must_from (test i) (f i) (before i c))) (must_fails (test k) (f k) out)
 
 -- a test of jobs at ticks
 module _ (of : Rule) (test : ℕ → ℕ → Bool) where
@@ -34,7 +35,8 @@ module _ (of : Rule) (test : ℕ → ℕ → Bool) where
   pub none_found : (ticks jobs t k : ℕ) → found_in of test ticks jobs ≡ None → t < ticks → k < jobs → test t k ≡ false
   none_found ticks jobs t k h b c =
       not-true (test t k)
-      (each_holds (λ i. not (test t i)) (λ i. fault_at of i t) jobs (none_below (λ s. first_below (λ i. must (not (test s i)) (fault_at of i s)) jobs) ticks t h b) k c)
+      (each_holds (λ i. not (test t i)) (λ i. fault_at of i t) jobs
+      (none_below (λ s. first_below (λ i. must (not (test s i)) (fault_at of i s)) jobs) ticks t h b) k c)
 
   pub found_some : (ticks jobs t k : ℕ) → t < ticks → k < jobs → test t k ≡ true →
       ((s m : ℕ) → s < t → m < jobs → test s m ≡ false) → ((m : ℕ) → m < k → test t m ≡ false) →
@@ -46,7 +48,8 @@ module _ (of : Rule) (test : ℕ → ℕ → Bool) where
   -- where no tick has a job that passes
   tick_none : (run : Run) → IsFirstPlace test run None →
       found_in of test (length run.ticks) (length run.jobs) ≡ None
-  tick_none run none = found_none (length run.ticks) (length run.jobs) (λ t k b c. false_from_ne_true (test t k) (λ h. none t b (record { job = k; listed = c; passes = h })))
+  tick_none run none = found_none (length run.ticks) (length run.jobs)
+      (λ t k b c. false_from_ne_true (test t k) (λ h. none t b (record { job = k; listed = c; passes = h })))
 
   -- the first place is the fault that is found
   pub placed : (run : Run) (place : Option Place) (f : Option Fault) → IsFirstPlace test run place →
@@ -55,4 +58,6 @@ module _ (of : Rule) (test : ℕ → ℕ → Bool) where
   placed run (Some w) f first is =
       let least = first.1 in
       is
-      ∙ sym (found_some (length run.ticks) (length run.jobs) w.tick w.job first.0 least.0 least.1 (λ s m b c. false_from_ne_true (test s m) (λ h. first.2 s b (record { job = m; listed = c; passes = h }))) (λ m b. false_from_ne_true (test w.tick m) (least.2 m b)))
+      ∙ sym (found_some (length run.ticks) (length run.jobs) w.tick w.job first.0 least.0 least.1
+      (λ s m b c. false_from_ne_true (test s m) (λ h. first.2 s b (record { job = m; listed = c; passes = h })))
+      (λ m b. false_from_ne_true (test w.tick m) (least.2 m b)))

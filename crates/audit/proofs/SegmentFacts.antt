@@ -1,5 +1,6 @@
 -- The one job that may be inside a segment.
-use Rattle.std.proofs.Common.{◌≡◌, ◌≢◌, ℕ, ◌+◌, ◌<◌, Bool, true, false, length, Option, MatchOption, Some, None, arith, refl, sym, ◌∙◌, ap, subst, inl, inr, add-one}
+use Rattle.std.proofs.Common.{◌≡◌, ◌≢◌, ℕ, ◌+◌, ◌<◌, Bool, true, false, length, Option, MatchOption, Some, None, arith, refl, sym, ◌∙◌, ap, subst}
+use Rattle.std.proofs.Common.{inl, inr, add-one}
 use Rattle.std.proofs.lemmas.Bool.{cases_eq, both_ways}
 use Rattle.lists.specs.Searches.{OnlyFails}
 use Rattle.lists.proofs.SearchFacts.{only_same}
@@ -49,7 +50,8 @@ module _ (m : CutMeaning) (sheet : SheetParts) (run : Run) (t : ℕ) (inside : t
   others_cut : (j k : ℕ) (x : Option ℕ) → tick_at run t ≡ Runs j → (Leaves (tick_at run t) x → ⊥) →
       OnlyFails cut_at (length run.jobs) x → k < length run.jobs → k ≢ j → cut_next k ≡ true
   others_cut j k x is stays h b ne =
-      same_cut k (λ r. ne (same_job k j (tick_at run t) r is)) ∙ others_pass cut_at (length run.jobs) x j k h (λ l. stays (subst (λ w. Leaves w x) (sym is) l)) b ne
+      same_cut k (λ r. ne (same_job k j (tick_at run t) r is)) ∙
+      others_pass cut_at (length run.jobs) x j k h (λ l. stays (subst (λ w. Leaves w x) (sym is) l)) b ne
 
   -- after a tick that runs j, which can be cut then
   pub inside_cut : (j : ℕ) (x : Option ℕ) → tick_at run t ≡ Runs j → (Leaves (tick_at run t) x → ⊥) →
@@ -72,8 +74,10 @@ module _ (m : CutMeaning) (sheet : SheetParts) (run : Run) (t : ℕ) (inside : t
   left_inside : (j : ℕ) (y : Tick) → tick_at run t ≡ y → cut_at j ≡ false → Leaves y (Some j) →
       is_segment_broken m sheet run t j ≡ true
   left_inside j Off e h l = absurd l
-  left_inside j Idle e h l = segment_to m sheet run t j (record { supplied = λ off. (let two = sym e ∙ off in cc); inside = h; other = λ r. (let two = sym e ∙ r in cc) })
-  left_inside j (Runs k) e h l = segment_to m sheet run t j (record { supplied = λ off. (let two = sym e ∙ off in cc); inside = h; other = λ r. l (same_job k j (tick_at run t) e r) })
+  left_inside j Idle e h l = segment_to m sheet run t j
+      (record { supplied = λ off. (let two = sym e ∙ off in cc); inside = h; other = λ r. (let two = sym e ∙ r in cc) })
+  left_inside j (Runs k) e h l =
+      segment_to m sheet run t j (record { supplied = λ off. (let two = sym e ∙ off in cc); inside = h; other = λ r. l (same_job k j (tick_at run t) e r) })
 
   -- a tick that leaves the job inside a segment
   pub left_place : (x : Option ℕ) (r : Option Place) → OnlyFails cut_at (length run.jobs) x → Leaves (tick_at run t) x →
@@ -120,4 +124,5 @@ pub inside_none : (m : CutMeaning) (sheet : SheetParts) (run : Run) →
 inside_none m sheet run lawful ok served fitting k b =
     let job = fitting k b in
     let o = (job_at run k).task in
-    ap (m.cuttable (task_at sheet o) (job_at run k)) (service_none run k) ∙ (lawful (task_at sheet o) (ok.each o job.task) (served o job.task)).cut_first (job_at run k) job.fit
+    ap (m.cuttable (task_at sheet o) (job_at run k)) (service_none run k) ∙
+    (lawful (task_at sheet o) (ok.each o job.task) (served o job.task)).cut_first (job_at run k) job.fit

@@ -37,7 +37,15 @@ served_run run t j x served b is listed at s = record {
         omega (arith, s.each k c, stays.same, get_or-set_other served j k (x + 1) 0 ne)
     | inr gains ↦
         let e : k ≡ j = same_job k j (tick_at run t) gains.is is in
-        omega (arith, s.each k c, gains.more, ap (λ i. get_or (set served j (x + 1)) i 0) e, ap (λ i. get_or served i 0) e, get_or-set_same served j (x + 1) 0 (omega (arith, s.count)), at)
+        omega (
+          arith,
+          s.each k c,
+          gains.more,
+          ap (λ i. get_or (set served j (x + 1)) i 0) e,
+          ap (λ i. get_or served i 0) e,
+          get_or-set_same served j (x + 1) 0 (omega (arith, s.count)),
+          at,
+        )
   ]);
   few = λ k c. elim (cases_eq k j) [
     | inl e ↦ omega (arith, s.few j listed, ap (λ i. get_or (set served j (x + 1)) i 0) e, get_or-set_same served j (x + 1) 0 (omega (arith, s.count)), at)

@@ -86,7 +86,11 @@ undone_more run t served after order places b p a =
         count = a.count;
         ordered = ready.ordered;
         tasks = ready.tasks;
-        past = λ o c. record { within = (ready.past o c).within; done = λ i d left. (ready.past o c).done i d (left_before run t served after o (arrival_at order i).job b p.counted a left) };
+        past = λ o c. record {
+          within = (ready.past o c).within;
+          done =
+              λ i d left. (ready.past o c).done i d (left_before run t served after o (arrival_at order i).job b p.counted a left);
+        };
       };
     }
 
@@ -112,7 +116,8 @@ undone_none run tasks served order places below s ordered is =
 pub ready_with : (run : Run) (served : List ℕ) (order : List Arrival) (places others : List ℕ) →
     length others ≡ length places → IsReadyAt run served order places → ArePlaces run served order others →
     IsReadyAt run served order others
-ready_with run served order places others same ready past = record { count = ready.count; ordered = ready.ordered; tasks = subst (AreBelow run) (sym same) ready.tasks; past = past }
+ready_with run served order places others same ready past =
+    record { count = ready.count; ordered = ready.ordered; tasks = subst (AreBelow run) (sym same) ready.tasks; past = past }
 
 pub front_listed : (run : Run) (served : List ℕ) (o : ℕ) (front : Option ℕ) → IsFront run served o front →
     IsListed run front

@@ -63,7 +63,8 @@ module _ (p : PolicyMeaning) (m : CutMeaning) (sbf : ℕ → ℕ) (sheet : Sheet
       let segment = first_parts (segment_in m sheet run) from_priority idle.1 in
       record {
         fit = each_holds (does_fit m sheet run) unfit (length run.jobs) fit.0;
-        released = λ k b. not-true (is_release_broken sheet run k) (each_holds (λ i. not (is_release_broken sheet run i)) unreleased (length run.jobs) released.0 k b);
+        released = λ k b. not-true (is_release_broken sheet run k)
+            (each_holds (λ i. not (is_release_broken sheet run i)) unreleased (length run.jobs) released.0 k b);
         valid = none_invalid run valid.0;
         uncrowded = none_crowded sheet run crowded.0;
         supplied = none_short sbf run short.0;
@@ -76,12 +77,15 @@ module _ (p : PolicyMeaning) (m : CutMeaning) (sbf : ℕ → ℕ) (sheet : Sheet
   unfolding unfit_in unreleased_in idle_in segment_in priority_in
   passes_unbroken tests =
       first_from (unfit_in m sheet run) from_unreleased (all_hold (does_fit m sheet run) unfit (length run.jobs) tests.fit)
-      (first_from (unreleased_in sheet run) from_invalid (all_hold (λ k. not (is_release_broken sheet run k)) unreleased (length run.jobs) (λ k b. not_from_false (is_release_broken sheet run k) (tests.released k b)))
+      (first_from (unreleased_in sheet run) from_invalid
+      (all_hold (λ k. not (is_release_broken sheet run k)) unreleased (length run.jobs)
+      (λ k b. not_from_false (is_release_broken sheet run k) (tests.released k b)))
       (first_from (invalid_in run) from_crowded (invalid_none run tests.valid)
       (first_from (crowded_in sheet run) from_short (crowded_none sheet run tests.uncrowded)
       (first_from (short_in sbf run) from_idle (short_never sbf run tests.supplied)
       (first_from (idle_in run) from_segment (found_none rule.Idle (is_idle_broken run) (length run.ticks) (length run.jobs) tests.conserving)
-      (first_from (segment_in m sheet run) from_priority (found_none rule.Segment (is_segment_broken m sheet run) (length run.ticks) (length run.jobs) tests.segments)
+      (first_from (segment_in m sheet run) from_priority
+      (found_none rule.Segment (is_segment_broken m sheet run) (length run.ticks) (length run.jobs) tests.segments)
       (found_none rule.Priority (is_priority_broken p m sheet run) (length run.ticks) (length run.jobs) tests.policy)))))))
 
   -- a run breaks no rule exactly where it complies

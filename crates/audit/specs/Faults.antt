@@ -75,4 +75,7 @@ priority_in p m sheet run = found_in rule.Priority (is_priority_broken p m sheet
 -- the first rule that the run breaks, at its first place
 abbrev pub first_broken : PolicyMeaning → CutMeaning → (ℕ → ℕ) → SheetParts → Run → Option Fault
 first_broken p m sbf sheet run =
-    first_of (unfit_in m sheet run) (first_of (unreleased_in sheet run) (first_of (invalid_in run) (first_of (crowded_in sheet run) (first_of (short_in sbf run) (first_of (idle_in run) (first_of (segment_in m sheet run) (priority_in p m sheet run)))))))
+    first_of (unfit_in m sheet run)
+    (first_of (unreleased_in sheet run)
+    (first_of (invalid_in run) (first_of (crowded_in sheet run)
+    (first_of (short_in sbf run) (first_of (idle_in run) (first_of (segment_in m sheet run) (priority_in p m sheet run)))))))

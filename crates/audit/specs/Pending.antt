@@ -21,7 +21,8 @@ unfoldable pub is_waiting : Run → List Arrival → ℕ → ℕ → ℕ → Boo
 is_waiting run coming i t k = is_among coming i k && not (is_done run k t)
 
 -- the jobs before a place have come by tick t, and those that are not done are in the queue
-pub record HasCome (p : PolicyMeaning) (sheet : SheetParts) (run : Run) (t : ℕ) (served : List ℕ) (coming : List Arrival) (next : ℕ) (queue : BTreeMap Rank ℕ) : Type 0 where
+pub record HasCome (p : PolicyMeaning) (sheet : SheetParts) (run : Run) (t : ℕ) (served : List ℕ) (coming : List Arrival)
+    (next : ℕ) (queue : BTreeMap Rank ℕ) : Type 0 where
   pub counted : IsServed run t served
   pub ordered : IsReleaseOrder run coming
   pub within : next ≤ length coming
@@ -29,7 +30,8 @@ pub record HasCome (p : PolicyMeaning) (sheet : SheetParts) (run : Run) (t : ℕ
   pub waiting : IsQueue p sheet run.jobs (is_waiting run coming next t) queue
 
 -- and the others have not
-pub record IsReady (p : PolicyMeaning) (sheet : SheetParts) (run : Run) (t : ℕ) (served : List ℕ) (coming : List Arrival) (next : ℕ) (queue : BTreeMap Rank ℕ) : Type 0 where
+pub record IsReady (p : PolicyMeaning) (sheet : SheetParts) (run : Run) (t : ℕ) (served : List ℕ) (coming : List Arrival)
+    (next : ℕ) (queue : BTreeMap Rank ℕ) : Type 0 where
   pub come : HasCome p sheet run t served coming next queue
   pub ahead : (i : ℕ) → next ≤ i → i < length coming → t < (arrival_at coming i).release
 

@@ -32,4 +32,5 @@ AreLatest run order i latest = (o : ℕ) → o < length latest → IsLatest run 
 abbrev pub IsLeastBroken : SheetParts → Run → List Arrival → ℕ → Option ℕ → Type 0
 IsLeastBroken sheet run order i None = (p : ℕ) → p < i → is_release_broken sheet run (arrival_at order p).job ≡ false
 IsLeastBroken sheet run order i (Some k) =
-    (k < length run.jobs) × (is_release_broken sheet run k ≡ true) × ((p : ℕ) → p < i → is_release_broken sheet run (arrival_at order p).job ≡ true → k ≤ (arrival_at order p).job)
+    (k < length run.jobs) × (is_release_broken sheet run k ≡ true) × ((p : ℕ) → p < i →
+    is_release_broken sheet run (arrival_at order p).job ≡ true → k ≤ (arrival_at order p).job)

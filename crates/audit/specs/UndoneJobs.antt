@@ -20,7 +20,8 @@ pub record IsLeft (run : Run) (served : List ℕ) (o k : ℕ) : Type 0 where
 abbrev pub IsFront : Run → List ℕ → ℕ → Option ℕ → Type 0
 IsFront run served o None = (n : ℕ) → IsLeft run served o n → ⊥
 IsFront run served o (Some f) =
-    IsLeft run served o f × ((n : ℕ) → IsLeft run served o n → IsNoLater (job_at run f).arrival (job_at run f).release (job_at run n).arrival (job_at run n).release)
+    IsLeft run served o f × ((n : ℕ) → IsLeft run served o n →
+    IsNoLater (job_at run f).arrival (job_at run f).release (job_at run n).arrival (job_at run n).release)
 
 -- no job of task o is left before this place
 pub record AreDoneBefore (run : Run) (served : List ℕ) (order : List Arrival) (o place : ℕ) : Type 0 where

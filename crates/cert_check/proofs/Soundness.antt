@@ -30,13 +30,18 @@ module _ (p : PolicyMeaning) (m : CutMeaning) (sbf : ℕ → ℕ) (sheet : Sheet
   -- what is bounded by a number is bounded by a greater one
   later_bound : (i bound later : ℕ) → bound ≤ later → IsBounded p m sbf sheet i bound → IsBounded p m sbf sheet i later
   later_bound i bound later le bounded run complies j listed of within =
-      omega (arith, bounded run complies j listed of (omega arith), service_le run j ((job_at run j).arrival + bound) ((job_at run j).arrival + later) (omega arith) within)
+      omega (
+        arith,
+        bounded run complies j listed of (omega arith),
+        service_le run j ((job_at run j).arrival + bound) ((job_at run j).arrival + later) (omega arith) within,
+      )
 
   in_time_by : (deadlines : Bool) (bound : ℕ → ℕ) → ((i : ℕ) → i < length sheet.tasks → IsBounded p m sbf sheet i (bound i)) →
       ((i : ℕ) → i < length sheet.tasks → IsInTime sheet deadlines i (bound i)) → AreInTime p m sbf sheet deadlines
   in_time_by false bound bounded in_time = tt
   in_time_by true bound bounded in_time = λ i lt.
-      let is : get_or (map (λ (t : Task). t.deadline) sheet.tasks) i 0 ≡ (task_at sheet i).deadline = get_or-map (λ (t : Task). t.deadline) sheet.tasks i no_task 0 lt in
+      let is : get_or (map (λ (t : Task). t.deadline) sheet.tasks) i 0 ≡ (task_at sheet i).deadline =
+      get_or-map (λ (t : Task). t.deadline) sheet.tasks i no_task 0 lt in
       subst (λ w. IsBounded p m sbf sheet i w) (sym is) (later_bound i (bound i) (task_at sheet i).deadline (in_time i lt) (bounded i lt))
 
   -- the bounds of a certificate that meets the conditions are sound
@@ -54,7 +59,8 @@ module _ (p : PolicyMeaning) (m : CutMeaning) (sbf : ℕ → ℕ) (sheet : Sheet
       record {
         count = simp length-map meets.count;
         bounded = λ i lt.
-            let is : get_or (bounds_of cert) i 0 ≡ (entry_at cert i).bound = get_or-map (λ (e : Entry). e.bound) cert.entries i no_entry 0 (omega (arith, meets.count)) in
+            let is : get_or (bounds_of cert) i 0 ≡ (entry_at cert i).bound =
+            get_or-map (λ (e : Entry). e.bound) cert.entries i no_entry 0 (omega (arith, meets.count)) in
             subst (λ w. IsBounded p m sbf sheet i w) (sym is) (holds i lt);
         in_time = in_time_by deadlines (λ i. (entry_at cert i).bound) holds (λ i lt. (meets.tasks i lt).in_time);
       }
@@ -63,15 +69,19 @@ module _ (p : PolicyMeaning) (m : CutMeaning) (sbf : ℕ → ℕ) where
   pub accepts : HaveOneReading cert_format cert_of_text → MeetingIsAccepted p m sbf
   unfolding cert_verdict_of
   accepts one sheet deadlines cert within none =
-      let reads : cert_of_text (text_of cert) ≡ Ok cert = reading_is cert_format cert_of_text one (text_of cert) (Ok cert) (record { within = within; text = refl }) in
+      let reads : cert_of_text (text_of cert) ≡ Ok cert = reading_is cert_format cert_of_text one (text_of cert) (Ok cert)
+      (record { within = within; text = refl }) in
       rw (reads, none) refl
 
-  module _ (law : PointsBound p m sbf) (means : FailedMeans p m sbf) (sheet : SheetParts) (valid : IsValidSheet sheet) (served : Serves m sheet) (deadlines : Bool) where
-    judged_holds : (cert : Cert) → IsWithinGrammar cert → (failed : Option Failed) → failed_of p m sbf sheet deadlines cert ≡ failed → IsBoundedBy p m sbf sheet deadlines (judged_as cert failed)
+  module _ (law : PointsBound p m sbf) (means : FailedMeans p m sbf) (sheet : SheetParts) (valid : IsValidSheet sheet)
+      (served : Serves m sheet) (deadlines : Bool) where
+    judged_holds : (cert : Cert) → IsWithinGrammar cert → (failed : Option Failed) →
+        failed_of p m sbf sheet deadlines cert ≡ failed → IsBoundedBy p m sbf sheet deadlines (judged_as cert failed)
     judged_holds cert within None none = sound p m sbf sheet deadlines cert law means valid served within none
     judged_holds cert within (Some failed) e = tt
 
-    read_holds : (bytes : List ℕ) (r : Result Cert TextRefusal) → IsReading cert_format bytes r → IsBoundedBy p m sbf sheet deadlines (verdict_by (failed_of p m sbf sheet deadlines) r)
+    read_holds : (bytes : List ℕ) (r : Result Cert TextRefusal) → IsReading cert_format bytes r →
+        IsBoundedBy p m sbf sheet deadlines (verdict_by (failed_of p m sbf sheet deadlines) r)
     read_holds bytes (Ok cert) parses = judged_holds cert parses.within (failed_of p m sbf sheet deadlines cert) refl
     read_holds bytes (Err (Line line)) r = tt
     read_holds bytes (Err Memory) r = tt

@@ -33,14 +33,16 @@ unfoldable pub cert_verdict_of : PolicyMeaning → CutMeaning → (ℕ → ℕ) 
 cert_verdict_of p m sbf sheet deadlines bytes = verdict_by (failed_of p m sbf sheet deadlines) (cert_of_text bytes)
 
 -- the bytes are the text of a certificate of which no condition fails, and these are its bounds
-pub record IsAccepted (p : PolicyMeaning) (m : CutMeaning) (sbf : ℕ → ℕ) (sheet : SheetParts) (deadlines : Bool) (bytes : List ℕ) (bounds : List ℕ) : Type 0 where
+pub record IsAccepted (p : PolicyMeaning) (m : CutMeaning) (sbf : ℕ → ℕ) (sheet : SheetParts) (deadlines : Bool) (bytes : List ℕ)
+    (bounds : List ℕ) : Type 0 where
   pub cert : Cert
   pub parses : Parses cert_format bytes cert
   pub meets : failed_of p m sbf sheet deadlines cert ≡ None
   pub bounds_are : bounds ≡ bounds_of cert
 
 -- the bytes are the text of a certificate of which this is the first condition that fails
-pub record IsRefused (p : PolicyMeaning) (m : CutMeaning) (sbf : ℕ → ℕ) (sheet : SheetParts) (deadlines : Bool) (bytes : List ℕ) (failed : Failed) : Type 0 where
+pub record IsRefused (p : PolicyMeaning) (m : CutMeaning) (sbf : ℕ → ℕ) (sheet : SheetParts) (deadlines : Bool) (bytes : List ℕ)
+    (failed : Failed) : Type 0 where
   pub cert : Cert
   pub parses : Parses cert_format bytes cert
   pub fails : failed_of p m sbf sheet deadlines cert ≡ Some failed

@@ -1,5 +1,6 @@
 -- A line read at once does what its bytes do one by one.
-use Rattle.std.proofs.Common.{◌≢◌, ◌≡◌, ℕ, suc, zero, ◌+◌, ◌-◌, ◌<◌, ◌≤◌, ◌==◌, Bool, true, false, ◌&&◌, cond, List, [], ◌∷◌, ◌++◌, length, get_or, take, drop, refl, sym, ap, subst, ◌∙◌, ◌⊎◌, inl, inr, ◌↔◌, slice_index_or, if◌then◌else◌, arith, append_assoc}
+use Rattle.std.proofs.Common.{◌≢◌, ◌≡◌, ℕ, suc, zero, ◌+◌, ◌-◌, ◌<◌, ◌≤◌, ◌==◌, Bool, true, false, ◌&&◌, cond, List, [], ◌∷◌, ◌++◌, length, get_or}
+use Rattle.std.proofs.Common.{take, drop, refl, sym, ap, subst, ◌∙◌, ◌⊎◌, inl, inr, ◌↔◌, slice_index_or, if◌then◌else◌, arith, append_assoc}
 use Rattle.std.proofs.lemmas.List.{append-nil, take_more, take_all, take-append-drop, take-take, drop-take}
 use Rattle.std.proofs.lemmas.List.Sums.{sum_by-cons, sum_by-append, sum_by-take-le}
 use Rattle.std.proofs.lemmas.Bool.{cases_Bool, eq-eqb, ne_eqb}
@@ -15,7 +16,8 @@ use Rattle.certificate.specs.declared.place.Expected.TheVariants.{Rest, VersionD
 use Rattle.certificate.specs.declared.place.Place.{Place}
 use Rattle.certificate.specs.declared.step.LineStep.{LineStep}
 use Rattle.certificate.specs.declared.step.LineStep.TheVariants as says
-use Rattle.certificate.proofs.ProgressFacts.{after_bytes-append, place_of, nothing_stays, nothing_or_good, good_test, good_from_begins, begins_from_good, bad_stands, says_stands, newlines_push}
+use Rattle.certificate.proofs.ProgressFacts.{after_bytes-append, place_of, nothing_stays, nothing_or_good, good_test, good_from_begins}
+use Rattle.certificate.proofs.ProgressFacts.{begins_from_good, bad_stands, says_stands, newlines_push}
 
 pub newlines_append : (xs ys : List ℕ) → newlines (xs ++ ys) ≡ newlines xs + newlines ys
 newlines_append xs ys = sum_by-append (λ (y : ℕ). cond (y == 10) 1 0) xs ys
@@ -64,17 +66,22 @@ line_few bytes n h = elim (line_parts bytes n h) [
 ]
 
 -- one byte more of a line
-pub byte_fed : (l now new : Progress) (bytes : List ℕ) (i : ℕ) → i < length bytes → now ≡ after_bytes l (take i bytes) → new ≡ after_byte now (get_or bytes i 0) → new ≡ after_bytes l (take (i + 1) bytes)
+pub byte_fed : (l now new : Progress) (bytes : List ℕ) (i : ℕ) → i < length bytes → now ≡ after_bytes l (take i bytes) →
+    new ≡ after_byte now (get_or bytes i 0) → new ≡ after_bytes l (take (i + 1) bytes)
 byte_fed l now new bytes i h before step =
-    step ∙ ap (λ (v : Progress). after_byte v (get_or bytes i 0)) before ∙ sym (after_push l (take i bytes) (get_or bytes i 0)) ∙ ap (after_bytes l) (sym (take_more bytes i 0 h))
+    step ∙ ap (λ (v : Progress). after_byte v (get_or bytes i 0)) before ∙ sym (after_push l (take i bytes) (get_or bytes i 0)) ∙
+    ap (after_bytes l) (sym (take_more bytes i 0 h))
 
-pub byte_said : (l now : Progress) (s said : LineStep) (bytes : List ℕ) (i : ℕ) → i < length bytes → now ≡ after_bytes l (take i bytes) → said ≡ (next_place now.place (get_or bytes i 0)).1 → said ≡ said_after s l (take (i + 1) bytes)
+pub byte_said : (l now : Progress) (s said : LineStep) (bytes : List ℕ) (i : ℕ) → i < length bytes →
+    now ≡ after_bytes l (take i bytes) → said ≡ (next_place now.place (get_or bytes i 0)).1 → said ≡ said_after s l (take (i + 1) bytes)
 byte_said l now s said bytes i h before step =
-    step ∙ ap (λ (v : Progress). (next_place v.place (get_or bytes i 0)).1) before ∙ sym (said_push s l (take i bytes) (get_or bytes i 0)) ∙ ap (said_after s l) (sym (take_more bytes i 0 h))
+    step ∙ ap (λ (v : Progress). (next_place v.place (get_or bytes i 0)).1) before ∙
+    sym (said_push s l (take i bytes) (get_or bytes i 0)) ∙ ap (said_after s l) (sym (take_more bytes i 0 h))
 
 pub none_more : (bytes : List ℕ) (i : ℕ) → i < length bytes → newlines (take i bytes) ≡ 0 → get_or bytes i 0 ≢ 10 → newlines (take (i + 1) bytes) ≡ 0
 none_more bytes i h none other =
-    ap newlines (take_more bytes i 0 h) ∙ newlines_push (take i bytes) (get_or bytes i 0) ∙ omega (arith, none, ap (λ (w : Bool). cond {A = ℕ} w 1 0) (ne_eqb (get_or bytes i 0) 10 other))
+    ap newlines (take_more bytes i 0 h) ∙ newlines_push (take i bytes) (get_or bytes i 0) ∙
+    omega (arith, none, ap (λ (w : Bool). cond {A = ℕ} w 1 0) (ne_eqb (get_or bytes i 0) 10 other))
 
 pub line_here : (bytes : List ℕ) (i : ℕ) → i < length bytes → newlines (take i bytes) ≡ 0 → get_or bytes i 0 ≡ 10 → IsFirstLine bytes (i + 1)
 line_here bytes i h none newline =
@@ -82,7 +89,8 @@ line_here bytes i h none newline =
     record {
       within = omega arith;
       inside = subst (λ (m : ℕ). newlines (take m bytes) ≡ 0) (sym less) none;
-      whole = λ _. ap newlines (take_more bytes i 0 h) ∙ newlines_push (take i bytes) (get_or bytes i 0) ∙ omega (arith, none, ap (λ (w : Bool). cond {A = ℕ} w 1 0) (eq-eqb (get_or bytes i 0) 10 newline));
+      whole = λ _. ap newlines (take_more bytes i 0 h) ∙ newlines_push (take i bytes) (get_or bytes i 0) ∙
+          omega (arith, none, ap (λ (w : Bool). cond {A = ℕ} w 1 0) (eq-eqb (get_or bytes i 0) 10 newline));
     }
 
 newlines_front : (bytes : List ℕ) (n : ℕ) → newlines (take n bytes) ≤ newlines bytes
@@ -134,7 +142,8 @@ bad_last s l b xs x h =
     subst (BadIs (said_after s l (xs ++ x ∷ []))) (append_assoc b xs (x ∷ []))
     (subst (λ (y : LineStep). BadIs y ((b ++ xs) ++ x ∷ [])) (sym (said_push s l xs x)) (bad_stands (after_bytes l xs) (b ++ xs) x (stands_all l b xs h)))
 
-pub bad_line : (l : Progress) (b bytes : List ℕ) (n : ℕ) → IsFirstLine bytes n → StandsFor l b → BadIs (said_after (said_at l.place.expected) l (take n bytes)) (b ++ take n bytes)
+pub bad_line : (l : Progress) (b bytes : List ℕ) (n : ℕ) → IsFirstLine bytes n → StandsFor l b →
+    BadIs (said_after (said_at l.place.expected) l (take n bytes)) (b ++ take n bytes)
 bad_line l b bytes n first h =
     let s = said_at l.place.expected in
     elim (line_parts bytes n first) [
@@ -154,20 +163,23 @@ says_last : (s : LineStep) (l : Progress) (b more xs : List ℕ) (p : HasLast xs
     → said_after s l xs ≡ line_says c b xs
 says_last s l b more xs p c h parses =
     let whole : b ++ (xs ++ more) ≡ (b ++ p.front) ++ p.last ∷ more = rw p.is (simp append_assoc) in
-    let said = says_stands (after_bytes l p.front) (b ++ p.front) more p.last c (stands_all l b p.front h) (subst (λ (t : List ℕ). Parses cert_format t c) whole parses) in
+    let said = says_stands (after_bytes l p.front) (b ++ p.front) more p.last c (stands_all l b p.front h)
+    (subst (λ (t : List ℕ). Parses cert_format t c) whole parses) in
     let count : newlines (b ++ p.front) ≡ newlines b = newlines_append b p.front ∙ omega (arith, p.none) in
     let test : (newlines xs == 1) ≡ (p.last == 10) = ap (λ (m : ℕ). m == 1) (last_count xs p) ∙ bit_one (p.last == 10) in
     ap (said_after s l) p.is ∙ said_push s l p.front p.last ∙ said
     ∙ ap (λ (m : ℕ). cond (p.last == 10) (slice_index_or (steps_of c) m says.More) says.More) count
     ∙ ap (λ (w : Bool). cond w (slice_index_or (steps_of c) (newlines b) says.More) says.More) (sym test)
 
-says_none : (l : Progress) (b more xs : List ℕ) (c : Cert) → xs ≡ [] → StandsFor l b → Parses cert_format (b ++ (xs ++ more)) c → said_after (said_at l.place.expected) l xs ≡ line_says c b xs
+says_none : (l : Progress) (b more xs : List ℕ) (c : Cert) → xs ≡ [] → StandsFor l b → Parses cert_format (b ++ (xs ++ more)) c →
+    said_after (said_at l.place.expected) l xs ≡ line_says c b xs
 says_none l b more xs c e h parses =
     let begins : BeginsText cert_format b = record { value = c; more = xs ++ more; parses = parses } in
     let same : l.place.expected ≡ (after_bytes beginning b).place.expected = ap (λ (v : Progress). v.place.expected) h.is in
     rw e (good_said l.place.expected (λ nothing. good_from_begins b begins (sym same ∙ nothing)))
 
-pub says_line : (l : Progress) (b more bytes : List ℕ) (n : ℕ) (c : Cert) → IsFirstLine bytes n → StandsFor l b → Parses cert_format (b ++ (take n bytes ++ more)) c
+pub says_line : (l : Progress) (b more bytes : List ℕ) (n : ℕ) (c : Cert) → IsFirstLine bytes n → StandsFor l b →
+    Parses cert_format (b ++ (take n bytes ++ more)) c
     → said_after (said_at l.place.expected) l (take n bytes) ≡ line_says c b (take n bytes)
 says_line l b more bytes n c first h parses = elim (line_parts bytes n first) [
   | inl e ↦ says_none l b more (take n bytes) c e h parses
@@ -203,12 +215,15 @@ line_some bytes (suc n) h some = omega arith
 pub stands_fed : (l new : Progress) (b bytes : List ℕ) (n : ℕ) → new ≡ after_bytes l (take n bytes) → StandsFor l b → StandsFor new (b ++ take n bytes)
 stands_fed l new b bytes n e h = subst (λ (v : Progress). StandsFor v (b ++ take n bytes)) (sym e) (stands_all l b (take n bytes) h)
 
-pub bad_fed : (l : Progress) (b bytes : List ℕ) (n : ℕ) (s : LineStep) → IsFirstLine bytes n → s ≡ said_after (said_at l.place.expected) l (take n bytes) → StandsFor l b
+pub bad_fed : (l : Progress) (b bytes : List ℕ) (n : ℕ) (s : LineStep) → IsFirstLine bytes n →
+    s ≡ said_after (said_at l.place.expected) l (take n bytes) → StandsFor l b
     → (s ≡ says.Bad) ↔ (BeginsText cert_format (b ++ take n bytes) → ⊥)
 bad_fed l b bytes n s first e h = subst (λ (y : LineStep). BadIs y (b ++ take n bytes)) (sym e) (bad_line l b bytes n first h)
 
-pub says_fed : (l : Progress) (b more bytes : List ℕ) (n : ℕ) (c : Cert) (s : LineStep) → IsFirstLine bytes n → s ≡ said_after (said_at l.place.expected) l (take n bytes) → StandsFor l b
-    → Parses cert_format (b ++ (take n bytes ++ more)) c → s ≡ (if newlines (take n bytes) == 1 then slice_index_or (steps_of c) (newlines b) says.More else says.More)
+pub says_fed : (l : Progress) (b more bytes : List ℕ) (n : ℕ) (c : Cert) (s : LineStep) → IsFirstLine bytes n →
+    s ≡ said_after (said_at l.place.expected) l (take n bytes) → StandsFor l b
+    → Parses cert_format (b ++ (take n bytes ++ more)) c →
+    s ≡ (if newlines (take n bytes) == 1 then slice_index_or (steps_of c) (newlines b) says.More else says.More)
 says_fed l b more bytes n c s first e h parses = e ∙ says_line l b more bytes n c first h parses
 
 -- the bytes up to a place, and a line behind it

@@ -1,5 +1,6 @@
 -- What may follow at each place: what leads over the end is the text of a certificate.
-use Rattle.std.proofs.Common.{◌≡◌, ℕ, suc, zero, ◌+◌, ◌-◌, ◌*◌, ◌/◌, ◌%◌, ◌<◌, ◌≤◌, ◌==◌, not, ◌&&◌, nat_le, Some, None, List, [], ◌∷◌, ◌++◌, length, get_or, drop, slice_index, codes, refl, sym, ap, subst, ◌∙◌, arith, append_assoc, decimal, All}
+use Rattle.std.proofs.Common.{◌≡◌, ℕ, suc, zero, ◌+◌, ◌-◌, ◌*◌, ◌/◌, ◌%◌, ◌<◌, ◌≤◌, ◌==◌, not, ◌&&◌, nat_le, Some, None, List, [], ◌∷◌, ◌++◌, length}
+use Rattle.std.proofs.Common.{get_or, drop, slice_index, codes, refl, sym, ap, subst, ◌∙◌, arith, append_assoc, decimal, All}
 use Rattle.std.specs.List.{flat_map}
 use Rattle.std.proofs.lemmas.List.Elements.{All-nil, All-cons}
 use Rattle.std.specs.Char.{is_ascii_digit}
@@ -8,7 +9,8 @@ use Rattle.std.proofs.lemmas.Fmt.{decimal_digit, decimal_step_wide}
 use Rattle.std.proofs.lemmas.Bool.{and_parts}
 use Rattle.lists.specs.Limits.{most_points, most_tasks}
 use Rattle.certificate.proofs.FieldFacts.{cases, eq_from_test, le_from_test, positive_from_test, digit_and, greatest_small}
-use Rattle.certificate.specs.Text.{PointLine, point_of, point_line, point_text, points_text, head_of, entries_text, greatest_term, IsEntry, HasTermsOf, cert_format}
+use Rattle.certificate.specs.Text.{PointLine, point_of, point_line, point_text, points_text, head_of, entries_text, greatest_term, IsEntry}
+use Rattle.certificate.specs.Text.{HasTermsOf, cert_format}
 use Rattle.certificate.specs.declared.cert.Version.{Version}
 use Rattle.certificate.specs.declared.cert.Version.TheVariants.{One, Two}
 use Rattle.certificate.proofs.PointFacts.{are_lines, points_in, terms_in}
@@ -17,7 +19,8 @@ use Rattle.poet_io.specs.Texts.{Parses}
 use Rattle.certificate.specs.declared.cert.Entry.{Entry}
 use Rattle.certificate.specs.declared.cert.Point.{Point}
 use Rattle.certificate.specs.declared.cert.Cert.{Cert}
-use Rattle.certificate.specs.Machine.{word_text, after_word, least, greatest, ender, at_place, after_entry, after_point, terms_of, after_end, after_number, in_word, digit_of, version_digit, first_digit, more_digits, next_place, start, IsPlace, IsRight}
+use Rattle.certificate.specs.Machine.{word_text, after_word, least, greatest, ender, at_place, after_entry, after_point, terms_of, after_end}
+use Rattle.certificate.specs.Machine.{after_number, in_word, digit_of, version_digit, first_digit, more_digits, next_place, start, IsPlace, IsRight}
 use Rattle.certificate.specs.declared.place.Word.{Word}
 use Rattle.certificate.specs.declared.place.Word.TheVariants as word
 use Rattle.certificate.specs.declared.place.Field.{Field}
@@ -88,7 +91,8 @@ PointsLeft v K zero = K
 PointsLeft v K (suc k) = PointLeft v (PointsLeft v K k)
 
 abbrev pub EntryLeft : Version → ℕ → Lang → Lang
-EntryLeft v i K = Then (word_text word.Task i) (Numeral v field.Window (λ w. Numeral v (field.Bound w) (λ r. Numeral v (field.Count w r) (λ k. PointsLeft v K k))))
+EntryLeft v i K = Then (word_text word.Task i)
+    (Numeral v field.Window (λ w. Numeral v (field.Bound w) (λ r. Numeral v (field.Count w r) (λ k. PointsLeft v K k))))
 
 -- m entries from the i-th on, and the end
 abbrev pub EntriesLeft : Version → ℕ → ℕ → Lang
@@ -146,7 +150,8 @@ left_after_point v i m (suc k) t h =
     let less : suc k - 1 ≡ k = omega arith in
     subst (λ (w : ℕ). PointLeft v (PointsLeft v (EntriesLeft v (suc i) m) w) t) less h
 
-left_after_end : (v : Version) (i m k a x : ℕ) (t : List ℕ) → Left (after_end v i m k a x).0 t → TermsLeft v (point_of a x) (PointsLeft v (EntriesLeft v (suc i) m) (k - 1)) t
+left_after_end : (v : Version) (i m k a x : ℕ) (t : List ℕ) → Left (after_end v i m k a x).0 t →
+    TermsLeft v (point_of a x) (PointsLeft v (EntriesLeft v (suc i) m) (k - 1)) t
 left_after_end One i m k a x t h = left_after_point One i m (k - 1) t h
 left_after_end Two i m k a x t h = h
 
@@ -166,7 +171,8 @@ left_after_number v (field.Own p b) i m k n t low h = h
 left_after_number v (field.Others p b o) i m k n t low h = h
 left_after_number v (field.Need p b o r) i m k n t low h = left_after_point v i m (k - 1) t h
 
-back_word : (v : Version) (w : Word) (i m k at x : ℕ) (t : List ℕ) → at < length (word_text w i) → Left (in_word v i m k w at x).0 t → Then (drop at (word_text w i)) (AfterWord v i m k w) (x ∷ t)
+back_word : (v : Version) (w : Word) (i m k at x : ℕ) (t : List ℕ) → at < length (word_text w i) →
+    Left (in_word v i m k w at x).0 t → Then (drop at (word_text w i)) (AfterWord v i m k w) (x ∷ t)
 back_word v w i m k at x t fits =
     let text = word_text w i in
     let more : drop at text ≡ get_or text at 0 ∷ drop (at + 1) text = drop_more text at 0 fits in
@@ -182,9 +188,11 @@ back_word v w i m k at x t fits =
 back_version : (x : ℕ) (t : List ℕ) → Left (version_digit x).0 t → Versioned TasksLeft (x ∷ t)
 back_version x t =
     cases (x == digit_of One)
-    (λ one. let e : x ≡ digit_of One = eq_from_test x (digit_of One) one in rw one (λ h. record { version = One; rest = t; is = ap (λ (y : ℕ). y ∷ t) e; after = h }))
+    (λ one. let e : x ≡ digit_of One =
+    eq_from_test x (digit_of One) one in rw one (λ h. record { version = One; rest = t; is = ap (λ (y : ℕ). y ∷ t) e; after = h }))
     (λ one. cases (x == digit_of Two)
-    (λ two. let e : x ≡ digit_of Two = eq_from_test x (digit_of Two) two in rw (one, two) (λ h. record { version = Two; rest = t; is = ap (λ (y : ℕ). y ∷ t) e; after = h }))
+    (λ two. let e : x ≡ digit_of Two = eq_from_test x (digit_of Two) two in rw (one, two)
+    (λ h. record { version = Two; rest = t; is = ap (λ (y : ℕ). y ∷ t) e; after = h }))
     (λ two. rw (one, two) (λ h. absurd h)))
 
 back_first : (v : Version) (f : Field) (i m k x : ℕ) (t : List ℕ) → Left (first_digit v i m k f x).0 t → Numeral v f (AfterNumber v i m k f) (x ∷ t)
@@ -209,7 +217,8 @@ digit_more y d pos small fits =
     let r : (y * 10 + d) % 10 ≡ d = omega arith in
     decimal_step_wide (y * 10 + d) (omega arith) (omega arith) ∙ rw (q, r) refl
 
-back_more : (v : Version) (f : Field) (i m k y x : ℕ) (t : List ℕ) → least f ≤ y → y ≤ greatest f → Left (more_digits v i m k f y x).0 t → MoreDigits v f y (AfterNumber v i m k f) (x ∷ t)
+back_more : (v : Version) (f : Field) (i m k y x : ℕ) (t : List ℕ) → least f ≤ y → y ≤ greatest f →
+    Left (more_digits v i m k f y x).0 t → MoreDigits v f y (AfterNumber v i m k f) (x ∷ t)
 back_more v f i m k y x t low high =
     cases (x == ender v f)
     (λ end. rw end (λ h. record {
@@ -227,14 +236,16 @@ back_more v f i m k y x t low high =
     let d = digit_and x (not (y == 0) && nat_le (y * 10 + (x - 48)) (greatest f)) test in
     let q = and_parts (not (y == 0)) (nat_le (y * 10 + (x - 48)) (greatest f)) d.2 in
     let w : 48 + (x - 48) ≡ x = omega (arith, d.0) in
-    let more = digit_more y (x - 48) (positive_from_test y q.0) (omega (arith, d.0, d.1)) (omega (arith, le_from_test (y * 10 + (x - 48)) (greatest f) q.1, greatest_small f)) in
+    let more = digit_more y (x - 48) (positive_from_test y q.0) (omega (arith, d.0, d.1))
+    (omega (arith, le_from_test (y * 10 + (x - 48)) (greatest f) q.1, greatest_small f)) in
     rw (end, test) (λ h. record {
       n = h.n;
       digits = x ∷ h.digits;
       rest = h.rest;
       low = h.low;
       high = h.high;
-      begins = h.begins ∙ ap (λ (l : List ℕ). l ++ h.digits) more ∙ append_assoc (decimal y) ((48 + (x - 48)) ∷ []) h.digits ∙ ap (λ (z : ℕ). decimal y ++ z ∷ h.digits) w;
+      begins = h.begins ∙ ap (λ (l : List ℕ). l ++ h.digits) more ∙ append_assoc (decimal y) ((48 + (x - 48)) ∷ []) h.digits ∙
+          ap (λ (z : ℕ). decimal y ++ z ∷ h.digits) w;
       is = ap (λ (l : List ℕ). x ∷ l) h.is;
       after = h.after;
     }))
@@ -274,12 +285,29 @@ in_range (field.Need p b o h) = omega arith
 some_numeral : (v : Version) (f : Field) (K : ℕ → Lang) → ((n : ℕ) → HasText (K n)) → HasText (Numeral v f K)
 some_numeral v f K h =
     let s = h (least f) in
-    record { text = decimal (least f) ++ (ender v f ∷ s.text); holds = record { n = least f; rest = s.text; low = omega arith; high = in_range f; is = refl; after = s.holds } }
+    record {
+      text = decimal (least f) ++ (ender v f ∷ s.text);
+      holds =
+          record { n = least f; rest = s.text; low = omega arith; high = in_range f; is = refl; after = s.holds };
+    }
 
 some_digits : (v : Version) (f : Field) (y : ℕ) (K : ℕ → Lang) → least f ≤ y → y ≤ greatest f → ((n : ℕ) → HasText (K n)) → HasText (MoreDigits v f y K)
 some_digits v f y K low high h =
     let s = h y in
-    record { text = ender v f ∷ s.text; holds = record { n = y; digits = []; rest = s.text; low = low; high = high; begins = sym (append-nil (decimal y)); is = refl; after = s.holds } }
+    record {
+      text = ender v f ∷ s.text;
+      holds = record {
+        n = y;
+        digits = [];
+        rest = s.text;
+        low = low;
+        high = high;
+        begins =
+            sym (append-nil (decimal y));
+        is = refl;
+        after = s.holds;
+      };
+    }
 
 some_need : (v : Version) (p : Point) (b o h : ℕ) (K : Lang) → HasText K → HasText (NeedLeft v p b o h K)
 some_need v p b o h K s = some_numeral v (field.Need p b o h) _ (λ n. s)
@@ -304,11 +332,14 @@ some_points v K (suc k) h = some_then (codes "p ") _ (some_numeral v field.Offse
 some_entries : (v : Version) (i m : ℕ) → HasText (EntriesLeft v i m)
 some_entries v i zero = record { text = codes "end\n"; holds = refl }
 some_entries v i (suc m) =
-    some_then (word_text word.Task i) _ (some_numeral v field.Window _ (λ w. some_numeral v (field.Bound w) _ (λ r. some_numeral v (field.Count w r) _ (λ k. some_points v _ k (some_entries v (suc i) m)))))
+    some_then (word_text word.Task i) _
+    (some_numeral v field.Window _
+    (λ w. some_numeral v (field.Bound w) _ (λ r. some_numeral v (field.Count w r) _ (λ k. some_points v _ k (some_entries v (suc i) m)))))
 
 some_after : (v : Version) (f : Field) (i m k n : ℕ) → HasText (AfterNumber v i m k f n)
 some_after v field.Tasks i m k n = some_entries v 0 n
-some_after v field.Window i m k w = some_numeral v (field.Bound w) _ (λ r. some_numeral v (field.Count w r) _ (λ k. some_points v _ k (some_entries v (suc i) m)))
+some_after v field.Window i m k w =
+    some_numeral v (field.Bound w) _ (λ r. some_numeral v (field.Count w r) _ (λ k. some_points v _ k (some_entries v (suc i) m)))
 some_after v (field.Bound w) i m k r = some_numeral v (field.Count w r) _ (λ k. some_points v _ k (some_entries v (suc i) m))
 some_after v (field.Count w r) i m k n = some_points v _ n (some_entries v (suc i) m)
 some_after v field.Offset i m k a = some_end v a _ (some_points v _ (k - 1) (some_entries v (suc i) m))
@@ -392,7 +423,8 @@ point_of_left Two K t h =
       line = point_line (point_of a.n x.n) (Some (terms_of b.n o.n r.n n.n));
       rest = n.rest;
       one = record { point = record { offset = a.high; end = x.high }; terms = record { blocking = b.high; own = o.high; others = r.high; need = n.high } };
-      is = term_join t h.rest a.rest x.rest b.rest o.rest r.rest n.rest (decimal a.n) (decimal x.n) (decimal b.n) (decimal o.n) (decimal r.n) (decimal n.n) h.is a.is x.is b.is o.is r.is n.is;
+      is = term_join t h.rest a.rest x.rest b.rest o.rest r.rest n.rest (decimal a.n) (decimal x.n) (decimal b.n) (decimal o.n)
+          (decimal r.n) (decimal n.n) h.is a.is x.is b.is o.is r.is n.is;
       after = n.after;
     }
 
@@ -442,13 +474,24 @@ entries_left v i (suc m) t h =
     record {
       entries = e ∷ others.entries;
       count = ap suc others.count;
-      each = All-cons IsEntry e others.entries (record { window = w.high; bound = r.high; some = subst (λ (n : ℕ). 1 ≤ n) (sym count) k.low; few = subst (λ (n : ℕ). n ≤ most_points) (sym count) k.high; points = are.points }) others.each;
+      each = All-cons IsEntry e others.entries
+          (record {
+            window = w.high;
+            bound = r.high;
+            some = subst (λ (n : ℕ). 1 ≤ n) (sym count) k.low;
+            few =
+                subst (λ (n : ℕ). n ≤ most_points) (sym count) k.high;
+            points = are.points;
+          }) others.each;
       terms = All-cons (HasTermsOf v) e others.entries (record { count = are.count; each = are.terms }) others.terms;
-      is = entry_join t h.rest w.rest r.rest k.rest points.rest (codes "end\n") (decimal i) (decimal w.n) (decimal r.n) (decimal k.n) (decimal (length e.points)) (points_text e) (entries_text (suc i) others.entries)
-          h.is w.is r.is k.is (ap decimal (sym count)) (points.is ∙ ap (λ (ls : List PointLine). flat_map point_text ls ++ points.rest) (sym are.same)) others.is;
+      is = entry_join t h.rest w.rest r.rest k.rest points.rest (codes "end\n") (decimal i) (decimal w.n) (decimal r.n)
+          (decimal k.n) (decimal (length e.points)) (points_text e) (entries_text (suc i) others.entries)
+          h.is w.is r.is k.is (ap decimal (sym count))
+          (points.is ∙ ap (λ (ls : List PointLine). flat_map point_text ls ++ points.rest) (sym are.same)) others.is;
     }
 
-text_join : (v : Version) (t q r s rest c n es : List ℕ) → t ≡ codes "poet-cert " ++ q → q ≡ digit_of v ∷ r → r ≡ codes "\ntasks " ++ s → s ≡ c ++ (10 ∷ (es ++ rest)) → c ≡ n
+text_join : (v : Version) (t q r s rest c n es : List ℕ) → t ≡ codes "poet-cert " ++ q → q ≡ digit_of v ∷ r →
+    r ≡ codes "\ntasks " ++ s → s ≡ c ++ (10 ∷ (es ++ rest)) → c ≡ n
     → t ≡ head_of v ++ (codes "tasks " ++ (n ++ (codes "\n" ++ (es ++ rest))))
 text_join One t q r s rest c n es e f g h k = rw (e, f, g, h, k) refl
 text_join Two t q r s rest c n es e f g h k = rw (e, f, g, h, k) refl
@@ -461,7 +504,13 @@ text_of_left t h =
     let es = entries_left v 0 n.n n.rest n.after in (
       record { version = v; entries = es.entries },
       record {
-        within = record { some = subst (λ (n : ℕ). 1 ≤ n) (sym es.count) n.low; few = subst (λ (n : ℕ). n ≤ most_tasks) (sym es.count) n.high; entries = es.each; terms = es.terms };
+        within = record {
+          some = subst (λ (n : ℕ). 1 ≤ n) (sym es.count) n.low;
+          few =
+              subst (λ (n : ℕ). n ≤ most_tasks) (sym es.count) n.high;
+          entries = es.each;
+          terms = es.terms;
+        };
         text = text_join v t h.rest h.after.rest tasks.rest (codes "end\n") (decimal n.n) (decimal (length es.entries)) (entries_text 0 es.entries)
             h.is h.after.is tasks.is (n.is ∙ ap (λ (l : List ℕ). decimal n.n ++ (10 ∷ l)) es.is) (ap decimal (sym es.count));
       },

@@ -15,10 +15,12 @@ lines_count [] ts = refl
 lines_count (p ∷ ps) [] = ap suc (lines_count ps [])
 lines_count (p ∷ ps) (t ∷ ts) = ap suc (lines_count ps ts)
 
-pub each_line : (v : Version) (ps : List Point) (ts : List Terms) → length ts ≡ terms_count v (length ps) → All IsPoint ps → All IsTerms ts → All (IsLineOf v) (lines_of ps ts)
+pub each_line : (v : Version) (ps : List Point) (ts : List Terms) → length ts ≡ terms_count v (length ps) → All IsPoint ps →
+    All IsTerms ts → All (IsLineOf v) (lines_of ps ts)
 each_line v [] ts count points terms = All-nil (IsLineOf v)
 each_line One (p ∷ ps) [] count points terms =
-    All-cons (IsLineOf One) (point_line p None) (lines_of ps []) (record { point = All-head IsPoint p ps points; terms = tt }) (each_line One ps [] refl (All-tail IsPoint p ps points) terms)
+    All-cons (IsLineOf One) (point_line p None) (lines_of ps []) (record { point = All-head IsPoint p ps points; terms = tt })
+    (each_line One ps [] refl (All-tail IsPoint p ps points) terms)
 each_line Two (p ∷ ps) [] count points terms = absurd (omega arith)
 each_line One (p ∷ ps) (t ∷ ts) count points terms = absurd (omega arith)
 each_line Two (p ∷ ps) (t ∷ ts) count points terms =
@@ -61,7 +63,8 @@ none_more p ls none same =
     let empty : terms_in ls ≡ [] = nil_from_length (terms_in ls) none in
     ap (lines_of (p ∷ points_in ls)) empty ∙ ap (λ (l : List PointLine). point_line p None ∷ l) (ap (lines_of (points_in ls)) (sym empty) ∙ same)
 
-one_more : (v : Version) (p : Point) (terms : Option Terms) (ls : List PointLine) → IsPoint p → HasTerms v terms → AreLines v ls → AreLines v (point_line p terms ∷ ls)
+one_more : (v : Version) (p : Point) (terms : Option Terms) (ls : List PointLine) → IsPoint p → HasTerms v terms → AreLines v ls →
+    AreLines v (point_line p terms ∷ ls)
 one_more One p None ls point has h = record {
   count = h.count;
   points = All-cons IsPoint p (points_in ls) point h.points;
@@ -80,4 +83,5 @@ one_more Two p (Some t) ls point has h = record {
 pub are_lines : (v : Version) (ls : List PointLine) → All (IsLineOf v) ls → AreLines v ls
 are_lines One [] h = record { count = refl; points = All-nil IsPoint; terms = All-nil IsTerms; same = refl }
 are_lines Two [] h = record { count = refl; points = All-nil IsPoint; terms = All-nil IsTerms; same = refl }
-are_lines v (l ∷ ls) h = one_more v l.point l.terms ls (All-head (IsLineOf v) l ls h).point (All-head (IsLineOf v) l ls h).terms (are_lines v ls (All-tail (IsLineOf v) l ls h))
+are_lines v (l ∷ ls) h = one_more v l.point l.terms ls (All-head (IsLineOf v) l ls h).point (All-head (IsLineOf v) l ls h).terms
+    (are_lines v ls (All-tail (IsLineOf v) l ls h))

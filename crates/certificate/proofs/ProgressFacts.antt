@@ -1,5 +1,6 @@
 -- What a place says of the bytes that led to it.
-use Rattle.std.proofs.Common.{◌≡◌, ℕ, suc, zero, ◌+◌, ◌-◌, ◌*◌, ◌==◌, Bool, true, false, not, ◌&&◌, cond, nat_le, List, [], ◌∷◌, ◌++◌, length, get_or, slice_index, codes, refl, sym, ap, subst, ◌∙◌, ◌⊎◌, inl, inr, ◌↔◌, slice_index_or, arith, append_assoc, length-append}
+use Rattle.std.proofs.Common.{◌≡◌, ℕ, suc, zero, ◌+◌, ◌-◌, ◌*◌, ◌==◌, Bool, true, false, not, ◌&&◌, cond, nat_le, List, [], ◌∷◌, ◌++◌, length, get_or}
+use Rattle.std.proofs.Common.{slice_index, codes, refl, sym, ap, subst, ◌∙◌, ◌⊎◌, inl, inr, ◌↔◌, slice_index_or, arith, append_assoc, length-append}
 use Rattle.std.specs.Char.{is_ascii_digit}
 use Rattle.std.proofs.lemmas.Bool.{cases_Bool}
 use Rattle.std.proofs.lemmas.List.{append-nil}
@@ -13,7 +14,9 @@ use Rattle.certificate.specs.declared.cert.Cert.{Cert}
 use Rattle.certificate.specs.declared.cert.Version.{Version}
 use Rattle.certificate.specs.declared.cert.Version.TheVariants.{One, Two}
 use Rattle.certificate.proofs.FieldFacts.{eq_from_test}
-use Rattle.certificate.specs.Machine.{word_text, after_word, least, greatest, ender, at_place, after_point, after_end, after_number, digit_of, version_digit, StandsFor, after_byte, after_bytes, beginning, is_good_at, is_over_at, IsProgress, word_step, next_place, start, IsPlace, bad, walk}
+use Rattle.certificate.specs.Machine.{word_text, after_word, least, greatest, ender, at_place, after_point, after_end, after_number, digit_of}
+use Rattle.certificate.specs.Machine.{version_digit, StandsFor, after_byte, after_bytes, beginning, is_good_at, is_over_at, IsProgress, word_step}
+use Rattle.certificate.specs.Machine.{next_place, start, IsPlace, bad, walk}
 use Rattle.certificate.specs.declared.place.Word.{Word}
 use Rattle.certificate.specs.declared.place.Word.TheVariants as word
 use Rattle.certificate.specs.declared.place.Field.{Field}
@@ -56,7 +59,8 @@ nothing_next v e i m k x h = rw h refl
 
 pub nothing_stays : (ss : List LineStep) (p : Place) (t : List ℕ) → p.expected ≡ Nothing → (walk ss p t).1.expected ≡ Nothing
 nothing_stays ss p [] h = h
-nothing_stays ss p (x ∷ t) h = nothing_stays (cond (x == 10) (ss ++ (next_place p x).1 ∷ []) ss) (next_place p x).0 t (nothing_next p.version p.expected p.task p.after p.points x h)
+nothing_stays ss p (x ∷ t) h = nothing_stays (cond (x == 10) (ss ++ (next_place p x).1 ∷ []) ss) (next_place p x).0 t
+    (nothing_next p.version p.expected p.task p.after p.points x h)
 
 left_all : (l : Progress) (b t : List ℕ) → IsProgress l.place l.line → Left (after_bytes l b).place t → Left l.place (b ++ t)
 left_all l [] t right h = h
@@ -70,7 +74,8 @@ good_from_begins b h not_so =
     let r = walk [] start b in
     let bad : r.1.expected ≡ Nothing = ap (λ (p : Place). p.expected) (sym (place_of [] beginning b)) ∙ not_so in
     let stays = nothing_stays r.0 r.1 h.more bad in
-    let one : (walk [] start (text_of h.value)).1.expected ≡ Nothing = ap (λ (t : List ℕ). (walk [] start t).1.expected) (sym h.parses.text) ∙ ap (λ (r : List LineStep × Place). r.1.expected) whole ∙ stays in
+    let one : (walk [] start (text_of h.value)).1.expected ≡ Nothing =
+    ap (λ (t : List ℕ). (walk [] start t).1.expected) (sym h.parses.text) ∙ ap (λ (r : List LineStep × Place). r.1.expected) whole ∙ stays in
     absurd (cc)
 
 pub begins_from_good : (b : List ℕ) → ((after_bytes beginning b).place.expected ≡ Nothing → ⊥) → BeginsText cert_format b
@@ -85,11 +90,13 @@ left_over v e i m k h = rw h refl
 
 pub parses_from_over : (b : List ℕ) → (after_bytes beginning b).place.expected ≡ Over → (c : Cert) × Parses cert_format b c
 parses_from_over b over =
-    let here : Left (after_bytes beginning b).place [] = (let p = (after_bytes beginning b).place in left_over p.version p.expected p.task p.after p.points over) in
+    let here : Left (after_bytes beginning b).place [] =
+    (let p = (after_bytes beginning b).place in left_over p.version p.expected p.task p.after p.points over) in
     rw append-nil at (text_of_left (b ++ []) (left_all beginning b [] start_right here))
 
 pub over_from_parses : (b : List ℕ) (c : Cert) → Parses cert_format b c → (after_bytes beginning b).place.expected ≡ Over
-over_from_parses b c h = ap (λ (p : Place). p.expected) (place_of [] beginning b) ∙ ap (λ (t : List ℕ). (walk [] start t).1.expected) h.text ∙ ap (λ (r : List LineStep × Place). r.1.expected) (text_walk c h.within)
+over_from_parses b c h = ap (λ (p : Place). p.expected) (place_of [] beginning b) ∙
+    ap (λ (t : List ℕ). (walk [] start t).1.expected) h.text ∙ ap (λ (r : List LineStep × Place). r.1.expected) (text_walk c h.within)
 
 -- what the lines say
 said_front : (ss : List LineStep) (p : Place) (t : List ℕ) → (walk ss p t).0 ≡ ss ++ (walk [] p t).0
@@ -100,7 +107,8 @@ said_front ss p (x ∷ t) =
     let first = λ (w : Bool) (e : x == 10 ≡ w). ap (λ (w : Bool). (walk (cond w (ss ++ s ∷ []) ss) q t).0) e in
     let again = λ (w : Bool) (e : x == 10 ≡ w). ap (λ (w : Bool). ss ++ (walk (cond w (s ∷ []) []) q t).0) (sym e) in
     elim (cases_Bool (x == 10)) [
-      | inl is_ten ↦ first true is_ten ∙ said_front (ss ++ s ∷ []) q t ∙ append_assoc ss (s ∷ []) (walk [] q t).0 ∙ ap (λ (l : List LineStep). ss ++ l) (sym (said_front (s ∷ []) q t)) ∙ again true is_ten
+      | inl is_ten ↦ first true is_ten ∙ said_front (ss ++ s ∷ []) q t ∙ append_assoc ss (s ∷ []) (walk [] q t).0 ∙
+          ap (λ (l : List LineStep). ss ++ l) (sym (said_front (s ∷ []) q t)) ∙ again true is_ten
       | inr not_so ↦ first false not_so ∙ said_front ss q t ∙ again false not_so
     ]
 
@@ -114,8 +122,12 @@ said_count done (x ∷ b) ss p h =
     let q = (next_place p x).0 in
     let first = λ (w : Bool) (e : x == 10 ≡ w). ap (λ (w : Bool). length (walk (cond w (ss ++ s ∷ []) ss) q b).0) e in
     elim (cases_Bool (x == 10)) [
-      | inl is_ten ↦ first true is_ten ∙ said_count (done ++ x ∷ []) b (ss ++ s ∷ []) q (omega (arith, length_push ss s, newlines_push done x, ap (λ (w : Bool). cond {A = ℕ} w 1 0) is_ten)) ∙ ap newlines (append_assoc done (x ∷ []) b)
-      | inr not_so ↦ first false not_so ∙ said_count (done ++ x ∷ []) b ss q (omega (arith, newlines_push done x, ap (λ (w : Bool). cond {A = ℕ} w 1 0) not_so)) ∙ ap newlines (append_assoc done (x ∷ []) b)
+      | inl is_ten ↦ first true is_ten ∙
+          said_count (done ++ x ∷ []) b (ss ++ s ∷ []) q
+          (omega (arith, length_push ss s, newlines_push done x, ap (λ (w : Bool). cond {A = ℕ} w 1 0) is_ten)) ∙ ap newlines (append_assoc done (x ∷ []) b)
+      | inr not_so ↦ first false not_so ∙
+          said_count (done ++ x ∷ []) b ss q (omega (arith, newlines_push done x, ap (λ (w : Bool). cond {A = ℕ} w 1 0) not_so)) ∙
+          ap newlines (append_assoc done (x ∷ []) b)
     ]
 
 quiet_end : (v : Version) (i m k a x : ℕ) → (ender v (field.Finish a) == 10) ≡ false → (after_end v i m k a x).1 ≡ says.More
@@ -153,10 +165,12 @@ quiet_version x = elim (cases_Bool (x == digit_of One)) [
   ]
 ]
 
-quiet_at : (v : Version) (e : Expected) (i m k x : ℕ) → (x == 10) ≡ false → ((next_place (at_place v e i m k) x).0.expected ≡ Nothing → ⊥) → (next_place (at_place v e i m k) x).1 ≡ says.More
+quiet_at : (v : Version) (e : Expected) (i m k x : ℕ) → (x == 10) ≡ false →
+    ((next_place (at_place v e i m k) x).0.expected ≡ Nothing → ⊥) → (next_place (at_place v e i m k) x).1 ≡ says.More
 quiet_at v (Rest w at) i m k x not_so = elim (cases_Bool (slice_index (word_text w i) at == x)) [
   | inl here ↦ elim (cases_Bool (at + 1 == length (word_text w i))) [
-    | inl last ↦ rw (here, last) (λ good. quiet_word w i at x not_so (eq_from_test (slice_index (word_text w i) at) x here) (eq_from_test (at + 1) (length (word_text w i)) last))
+    | inl last ↦ rw (here, last) (λ good. quiet_word w i at x not_so (eq_from_test (slice_index (word_text w i) at) x here)
+        (eq_from_test (at + 1) (length (word_text w i)) last))
     | inr last ↦ rw (here, last) (λ good. refl)
   ]
   | inr here ↦ rw here (λ good. absurd (good refl))
@@ -181,7 +195,8 @@ pub says_is : (b more : List ℕ) (x : ℕ) (c : Cert) → Parses cert_format (b
 says_is b more x c h =
     let r = walk [] start b in
     let place : (after_bytes beginning b).place ≡ r.1 = place_of [] beginning b in
-    let all : walk r.0 r.1 (x ∷ more) ≡ (steps_of c, at_place c.version Over 0 0 0) = sym (walk-append [] start b (x ∷ more)) ∙ ap (λ (t : List ℕ). walk [] start t) h.text ∙ text_walk c h.within in
+    let all : walk r.0 r.1 (x ∷ more) ≡ (steps_of c, at_place c.version Over 0 0 0) = sym (walk-append [] start b (x ∷ more)) ∙
+    ap (λ (t : List ℕ). walk [] start t) h.text ∙ text_walk c h.within in
     let count : length r.0 ≡ newlines b = said_count [] b [] start refl in
     let s = (next_place r.1 x).1 in
     let q = (next_place r.1 x).0 in
@@ -305,7 +320,8 @@ last_or_none (x ∷ l) = elim (last_or_none l) [
   | inr f ↦ inr (x ∷ f.0, f.1, ap (λ (t : List ℕ). x ∷ t) f.2)
 ]
 
-refused_good : (b : List ℕ) (x n : ℕ) → BeginsText cert_format (b ++ x ∷ []) → IsRefusedLine cert_format b n → IsRefusedLine cert_format (b ++ x ∷ []) (cond (x == 10 && true) (n + 1) n)
+refused_good : (b : List ℕ) (x n : ℕ) → BeginsText cert_format (b ++ x ∷ []) → IsRefusedLine cert_format b n →
+    IsRefusedLine cert_format (b ++ x ∷ []) (cond (x == 10 && true) (n + 1) n)
 refused_good b x n begins h =
     let long = h.longest b [] (sym (append-nil b)) (begins_front cert_format b (x ∷ []) begins) in
     let empty : h.rest ≡ [] = nil_from_length h.rest (omega (arith, ap length h.whole, length-append h.front h.rest)) in
@@ -331,7 +347,8 @@ refused_bad b x n bad h = record {
   begins = h.begins;
   longest = λ longer more e begins. elim (last_or_none more) [
     | inl none ↦ absurd (bad (subst (BeginsText cert_format) (sym (e ∙ ap (λ (t : List ℕ). longer ++ t) none ∙ append-nil longer)) begins))
-    | inr f ↦ h.longest longer f.0 ((same_from_push b (longer ++ f.0) x f.1 (e ∙ ap (λ (t : List ℕ). longer ++ t) f.2 ∙ sym (append_assoc longer f.0 (f.1 ∷ [])))).0) begins
+    | inr f ↦ h.longest longer f.0
+        ((same_from_push b (longer ++ f.0) x f.1 (e ∙ ap (λ (t : List ℕ). longer ++ t) f.2 ∙ sym (append_assoc longer f.0 (f.1 ∷ [])))).0) begins
   ];
   line = h.line;
 }
@@ -340,24 +357,39 @@ and_false : (x : Bool) → (x && false) ≡ false
 and_false true = refl
 and_false false = refl
 
-refused_next : (b : List ℕ) (x : ℕ) → IsRefusedLine cert_format b (after_bytes beginning b).line → IsRefusedLine cert_format (b ++ x ∷ []) (after_bytes beginning (b ++ x ∷ [])).line
+refused_next : (b : List ℕ) (x : ℕ) → IsRefusedLine cert_format b (after_bytes beginning b).line →
+    IsRefusedLine cert_format (b ++ x ∷ []) (after_bytes beginning (b ++ x ∷ [])).line
 refused_next b x h =
     let l = after_bytes beginning b in
     let q = (next_place l.place x).0 in
-    let same : (after_bytes beginning (b ++ x ∷ [])).line ≡ cond (x == 10 && is_good_at q.expected) (l.line + 1) l.line = ap (λ (v : Progress). v.line) (after_bytes-append beginning b (x ∷ [])) in
-    let place : (after_bytes beginning (b ++ x ∷ [])).place.expected ≡ q.expected = ap (λ (v : Progress). v.place.expected) (after_bytes-append beginning b (x ∷ [])) in
+    let same : (after_bytes beginning (b ++ x ∷ [])).line ≡ cond (x == 10 && is_good_at q.expected) (l.line + 1) l.line =
+    ap (λ (v : Progress). v.line) (after_bytes-append beginning b (x ∷ [])) in
+    let place : (after_bytes beginning (b ++ x ∷ [])).place.expected ≡ q.expected =
+    ap (λ (v : Progress). v.place.expected) (after_bytes-append beginning b (x ∷ [])) in
     elim (nothing_or_good q.expected) [
-      | inl nothing ↦ subst (IsRefusedLine cert_format (b ++ x ∷ [])) (sym (same ∙ rw (nothing, and_false (x == 10)) refl)) (refused_bad b x l.line (λ begins. good_from_begins (b ++ x ∷ []) begins (place ∙ nothing)) h)
-      | inr good ↦ subst (IsRefusedLine cert_format (b ++ x ∷ [])) (sym (same ∙ ap (λ (g : Bool). cond (x == 10 && g) (l.line + 1) l.line) (good_test q.expected good)))
+      | inl nothing ↦ subst (IsRefusedLine cert_format (b ++ x ∷ [])) (sym (same ∙ rw (nothing, and_false (x == 10)) refl))
+          (refused_bad b x l.line (λ begins. good_from_begins (b ++ x ∷ []) begins (place ∙ nothing)) h)
+      | inr good ↦ subst (IsRefusedLine cert_format (b ++ x ∷ []))
+          (sym (same ∙ ap (λ (g : Bool). cond (x == 10 && g) (l.line + 1) l.line) (good_test q.expected good)))
           (refused_good b x l.line (begins_from_good (b ++ x ∷ []) (λ nothing. good (sym place ∙ nothing))) h)
     ]
 
-refused_from : (done b : List ℕ) → IsRefusedLine cert_format done (after_bytes beginning done).line → IsRefusedLine cert_format (done ++ b) (after_bytes beginning (done ++ b)).line
+refused_from : (done b : List ℕ) → IsRefusedLine cert_format done (after_bytes beginning done).line →
+    IsRefusedLine cert_format (done ++ b) (after_bytes beginning (done ++ b)).line
 refused_from done [] h = subst (λ (t : List ℕ). IsRefusedLine cert_format t (after_bytes beginning t).line) (sym (append-nil done)) h
-refused_from done (x ∷ b) h = subst (λ (t : List ℕ). IsRefusedLine cert_format t (after_bytes beginning t).line) (append_assoc done (x ∷ []) b) (refused_from (done ++ x ∷ []) b (refused_next done x h))
+refused_from done (x ∷ b) h = subst (λ (t : List ℕ). IsRefusedLine cert_format t (after_bytes beginning t).line)
+    (append_assoc done (x ∷ []) b) (refused_from (done ++ x ∷ []) b (refused_next done x h))
 
 pub line_is : (b : List ℕ) → IsRefusedLine cert_format b (after_bytes beginning b).line
-line_is b = refused_from [] b (record { front = []; rest = []; whole = refl; begins = begins_from_good [] (λ h. cc); longest = λ longer more e _. omega (arith, ap length e, length-append longer more); line = refl })
+line_is b = refused_from [] b (record {
+  front = [];
+  rest = [];
+  whole = refl;
+  begins = begins_from_good [] (λ h. cc);
+  longest =
+      λ longer more e _. omega (arith, ap length e, length-append longer more);
+  line = refl;
+})
 
 -- the same, of a value that stands for the bytes
 pub bad_stands : (l : Progress) (b : List ℕ) (x : ℕ) → StandsFor l b → ((next_place l.place x).1 ≡ says.Bad) ↔ (BeginsText cert_format (b ++ x ∷ []) → ⊥)
@@ -386,7 +418,8 @@ line_stands l b h = subst (IsRefusedLine cert_format b) (ap (λ (v : Progress). 
 
 -- the version of the certificate whose text was read
 pub version_is : (b : List ℕ) (c : Cert) → Parses cert_format b c → (after_bytes beginning b).place.version ≡ c.version
-version_is b c h = ap (λ (p : Place). p.version) (place_of [] beginning b) ∙ ap (λ (t : List ℕ). (walk [] start t).1.version) h.text ∙ ap (λ (r : List LineStep × Place). r.1.version) (text_walk c h.within)
+version_is b c h = ap (λ (p : Place). p.version) (place_of [] beginning b) ∙
+    ap (λ (t : List ℕ). (walk [] start t).1.version) h.text ∙ ap (λ (r : List LineStep × Place). r.1.version) (text_walk c h.within)
 
 pub version_stands : (l : Progress) (b : List ℕ) (c : Cert) → StandsFor l b → Parses cert_format b c → l.place.version ≡ c.version
 version_stands l b c h parses = ap (λ (v : Progress). v.place.version) h.is ∙ version_is b c parses

@@ -18,9 +18,11 @@ use Rattle.certificate.proofs.ProgressFacts.{parses_from_over, over_from_parses,
 use Rattle.certificate.proofs.StepFacts.{entries_of-steps, one_parse}
 
 -- the entries that the lines make are those of the certificate whose text the bytes are
-parsed : (b : List ℕ) (c : Cert) → Parses cert_format b c → Parses cert_format b (record { version = (after_bytes beginning b).place.version; entries = entries_of (walk [] start b).0 })
+parsed : (b : List ℕ) (c : Cert) → Parses cert_format b c →
+    Parses cert_format b (record { version = (after_bytes beginning b).place.version; entries = entries_of (walk [] start b).0 })
 parsed b c h =
-    let steps : (walk [] start b).0 ≡ steps_of c = ap (λ (t : List ℕ). (walk [] start t).0) h.text ∙ ap (λ (r : List LineStep × _). r.0) (text_walk c h.within) in
+    let steps : (walk [] start b).0 ≡ steps_of c = ap (λ (t : List ℕ). (walk [] start t).0) h.text ∙
+    ap (λ (r : List LineStep × _). r.0) (text_walk c h.within) in
     let entries : c.entries ≡ entries_of (walk [] start b).0 = sym (ap entries_of steps ∙ entries_of-steps c h.within) in
     let version : c.version ≡ (after_bytes beginning b).place.version = sym (version_is b c h) in
     subst (λ (v : Version). Parses cert_format b (record { version = v; entries = entries_of (walk [] start b).0 })) version
@@ -44,7 +46,8 @@ cert_of_text-reading = reading_is cert_format cert_of_text one_reading_each
 -- the bytes that were all fed, and are no certificate's text
 pub refused_all : (b bytes : List ℕ) (over : Bool) (n : ℕ) → b ≡ bytes → (IsTrue over ↔ ((c : Cert) × Parses cert_format b c)) → over ≡ false →
     IsRefusedLine cert_format b n → IsRefusedAt cert_format bytes n
-refused_all b bytes over n e h not_over line = subst (λ (t : List ℕ). IsRefusedAt cert_format t n) e (record { none = λ c p. absurd (both_ways over not_over (h.1 (c, p))); line = line })
+refused_all b bytes over n e h not_over line = subst (λ (t : List ℕ). IsRefusedAt cert_format t n) e
+    (record { none = λ c p. absurd (both_ways over not_over (h.1 (c, p))); line = line })
 
 -- what is written is read as it was
 pub cert_of_text-text_of : (c : Cert) → IsWithinGrammar c → cert_of_text (text_of c) ≡ Ok c

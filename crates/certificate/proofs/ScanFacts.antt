@@ -1,5 +1,6 @@
 -- A point's line in front of the bytes, read at once.
-use Rattle.std.proofs.Common.{◌≢◌, ◌≡◌, ℕ, suc, zero, ◌+◌, ◌-◌, ◌%◌, ◌^◌, ◌<◌, ◌≤◌, ◌==◌, Bool, cond, List, [], ◌∷◌, ◌++◌, Option, Some, None, length, get_or, take, drop, codes, decimal, refl, sym, ap, subst, ◌∙◌, arith, append_assoc, length-append}
+use Rattle.std.proofs.Common.{◌≢◌, ◌≡◌, ℕ, suc, zero, ◌+◌, ◌-◌, ◌%◌, ◌^◌, ◌<◌, ◌≤◌, ◌==◌, Bool, cond, List, [], ◌∷◌, ◌++◌, Option, Some, None, length}
+use Rattle.std.proofs.Common.{get_or, take, drop, codes, decimal, refl, sym, ap, subst, ◌∙◌, arith, append_assoc, length-append}
 use Rattle.std.proofs.lemmas.List.{append-nil, length-take-le, get_or-take, take_at, nil_from_length, take-append-drop, take_rest, drop_more}
 use Rattle.std.proofs.lemmas.List.Sums.{sum_by-cons}
 use Rattle.std.proofs.lemmas.Fmt.{decimal_by_steps_wide}
@@ -62,8 +63,11 @@ front_one_line v l h =
       refl,
       (
         refl,
-        one_line_append (decimal l.point.offset) _ (decimal_wide_line l.point.offset (omega (arith, h.point.offset)))
-            (refl, one_line_append (decimal l.point.end) (terms_text l.terms) (decimal_wide_line l.point.end (omega (arith, h.point.end))) (terms_one_line v l.terms h.terms)),
+        one_line_append (decimal l.point.offset) _ (decimal_wide_line l.point.offset (omega (arith, h.point.offset))) (
+          refl,
+          one_line_append (decimal l.point.end) (terms_text l.terms)
+              (decimal_wide_line l.point.end (omega (arith, h.point.end))) (terms_one_line v l.terms h.terms),
+        ),
       ),
     )
 
@@ -73,7 +77,8 @@ front_taken bytes text rest e =
     let n : length text ≡ length bytes - length rest = omega (arith, ap length e, length-append text rest) in
     ap (take (length bytes - length rest)) e ∙ take_at text rest (length bytes - length rest) n
 
-pub point_first : (v : Version) (l : PointLine) (bytes rest : List ℕ) → IsLineOf v l → bytes ≡ point_text l ++ rest → IsFirstLine bytes (length bytes - length rest)
+pub point_first : (v : Version) (l : PointLine) (bytes rest : List ℕ) → IsLineOf v l → bytes ≡ point_text l ++ rest →
+    IsFirstLine bytes (length bytes - length rest)
 point_first v l bytes rest h e =
     let n = length bytes - length rest in
     let front = point_front l in
@@ -92,45 +97,64 @@ record Leads (l : PointLine) (k line : ℕ) (p : Place) (s : LineStep) (done : P
   pub step : s ≡ point_step l
 
 leads : (v : Version) (l : PointLine) (i m k line : ℕ) (s : LineStep) → IsLineOf v l
-    → Leads l k line (after_point v i m k) (said_after s (record { place = after_point v i m (suc k); line = line }) (point_text l)) (after_bytes (record { place = after_point v i m (suc k); line = line }) (point_text l))
+    → Leads l k line (after_point v i m k)
+    (said_after s (record { place = after_point v i m (suc k); line = line }) (point_text l))
+    (after_bytes (record { place = after_point v i m (suc k); line = line }) (point_text l))
 leads v l i m k line s h =
     let p = after_point v i m (suc k) in
     let start : Progress = record { place = p; line = line } in
     let front = point_front l in
-    let walked : walk [] p (point_text l) ≡ (point_step l ∷ [], after_point v i m k) = ap (walk [] p) (sym (append-nil (point_text l))) ∙ one_point v l [] i m k [] h in
-    let place : (after_bytes start (point_text l)).place ≡ after_point v i m k = place_of [] start (point_text l) ∙ ap (λ (r : List LineStep × Place). r.1) walked in
+    let walked : walk [] p (point_text l) ≡ (point_step l ∷ [], after_point v i m k) =
+    ap (walk [] p) (sym (append-nil (point_text l))) ∙ one_point v l [] i m k [] h in
+    let place : (after_bytes start (point_text l)).place ≡ after_point v i m k = place_of [] start (point_text l) ∙
+    ap (λ (r : List LineStep × Place). r.1) walked in
     let good : (after_bytes start (point_text l)).place.expected ≡ Nothing → ⊥ = λ e. point_good v i m k (ap (λ (q : Place). q.expected) (sym place) ∙ e) in
     let count : newlines (point_text l) ≡ 1 = ap newlines (front_is l) ∙ newlines_push front 10 ∙ omega (arith, front_one_line v l h) in
     let none : (walk [] p front).0 ≡ [] = nil_from_length (walk [] p front).0 (said_count [] front [] p refl ∙ front_one_line v l h) in
-    let said : (walk [] p (point_text l)).0 ≡ (walk [] p front).0 ++ (next_place (walk [] p front).1 10).1 ∷ [] = ap (λ (t : List ℕ). (walk [] p t).0) (front_is l) ∙ ap (λ (r : List LineStep × Place). r.0) (walk-append [] p front (10 ∷ [])) in
-    let one : point_step l ∷ [] ≡ (next_place (walk [] p front).1 10).1 ∷ [] = ap (λ (r : List LineStep × Place). r.0) (sym walked) ∙ said ∙ ap (λ (ss : List LineStep). ss ++ (next_place (walk [] p front).1 10).1 ∷ []) none in
+    let said : (walk [] p (point_text l)).0 ≡ (walk [] p front).0 ++ (next_place (walk [] p front).1 10).1 ∷ [] =
+    ap (λ (t : List ℕ). (walk [] p t).0) (front_is l) ∙ ap (λ (r : List LineStep × Place). r.0) (walk-append [] p front (10 ∷ [])) in
+    let one : point_step l ∷ [] ≡ (next_place (walk [] p front).1 10).1 ∷ [] =
+    ap (λ (r : List LineStep × Place). r.0) (sym walked) ∙ said ∙ ap (λ (ss : List LineStep). ss ++ (next_place (walk [] p front).1 10).1 ∷ []) none in
     record {
       place = place;
       line_on = line_count start (point_text l) good ∙ omega (arith, count);
-      step = ap (said_after s start) (front_is l) ∙ said_push s start front 10 ∙ ap (λ (q : Place). (next_place q 10).1) (place_of [] start front) ∙ sym (ap (λ (ss : List LineStep). get_or ss 0 (point_step l)) one);
+      step = ap (said_after s start) (front_is l) ∙ said_push s start front 10 ∙
+          ap (λ (q : Place). (next_place q 10).1) (place_of [] start front) ∙ sym (ap (λ (ss : List LineStep). get_or ss 0 (point_step l)) one);
     }
 
 -- the same, of a place where a point's word must come
 pub record ReadsPoint (place : Place) (line : ℕ) (l : PointLine) (s : LineStep) (text : List ℕ) : Type 0 where
-  pub progress : after_bytes (record { place = place; line = line }) text ≡ record { place = after_point place.version place.task place.after (place.points - 1); line = line + 1 }
+  pub progress : after_bytes (record { place = place; line = line }) text ≡ record {
+    place =
+        after_point place.version place.task place.after (place.points - 1);
+    line = line + 1;
+  }
   pub step : said_after s (record { place = place; line = line }) text ≡ point_step l
 
-reads_at : (v : Version) (l : PointLine) (i m k line : ℕ) (s : LineStep) → 1 ≤ k → IsLineOf v l → ReadsPoint (at_place v (Rest word.Point 0) i m k) line l s (point_text l)
+reads_at : (v : Version) (l : PointLine) (i m k line : ℕ) (s : LineStep) → 1 ≤ k → IsLineOf v l →
+    ReadsPoint (at_place v (Rest word.Point 0) i m k) line l s (point_text l)
 reads_at v l i m zero line s some h = absurd (omega arith)
 reads_at v l i m (suc k) line s some h =
     let r = leads v l i m k line s h in
     let less : k ≡ suc k - 1 = omega arith in
     record {
-      progress = ap (λ (p : Place). record { place = p; line = (after_bytes (record { place = after_point v i m (suc k); line = line }) (point_text l)).line }) r.place
-          ∙ ap (λ (n : ℕ). record { place = after_point v i m k; line = n }) r.line_on ∙ ap (λ (n : ℕ). record { place = after_point v i m n; line = line + 1 }) less;
+      progress = ap (λ (p : Place). record {
+        place = p;
+        line =
+            (after_bytes (record { place = after_point v i m (suc k); line = line }) (point_text l)).line;
+      }) r.place
+          ∙ ap (λ (n : ℕ). record { place = after_point v i m k; line = n }) r.line_on ∙
+          ap (λ (n : ℕ). record { place = after_point v i m n; line = line + 1 }) less;
       step = r.step;
     }
 
-pub reads_point : (p : Place) (l : PointLine) (line : ℕ) (s : LineStep) (bytes rest : List ℕ) → p.expected ≡ Rest word.Point 0 → 1 ≤ p.points → IsLineOf p.version l → bytes ≡ point_text l ++ rest
+pub reads_point : (p : Place) (l : PointLine) (line : ℕ) (s : LineStep) (bytes rest : List ℕ) → p.expected ≡ Rest word.Point 0 →
+    1 ≤ p.points → IsLineOf p.version l → bytes ≡ point_text l ++ rest
     → ReadsPoint p line l s (take (length bytes - length rest) bytes)
 reads_point p l line s bytes rest e some h is =
     subst (ReadsPoint p line l s) (sym (front_taken bytes (point_text l) rest is))
-    (subst (λ (x : _). ReadsPoint (at_place p.version x p.task p.after p.points) line l s (point_text l)) (sym e) (reads_at p.version l p.task p.after p.points line s some h))
+    (subst (λ (x : _). ReadsPoint (at_place p.version x p.task p.after p.points) line l s (point_text l)) (sym e)
+    (reads_at p.version l p.task p.after p.points line s some h))
 
 -- where a point's word must come, a point is still to come
 pub point_some : (p : Place) (line : ℕ) → p.expected ≡ Rest word.Point 0 → IsProgress p line → 1 ≤ p.points
@@ -139,29 +163,36 @@ point_some p line e h =
     right.1
 
 -- bytes lead to the place behind a point
-pub point_right : (p : Place) (l : PointLine) (line : ℕ) (bytes rest : List ℕ) → p.expected ≡ Rest word.Point 0 → IsProgress p line → IsLineOf p.version l → bytes ≡ point_text l ++ rest
+pub point_right : (p : Place) (l : PointLine) (line : ℕ) (bytes rest : List ℕ) → p.expected ≡ Rest word.Point 0 →
+    IsProgress p line → IsLineOf p.version l → bytes ≡ point_text l ++ rest
     → IsProgress (after_point p.version p.task p.after (p.points - 1)) (line + 1)
 point_right p l line bytes rest e right h is =
     let r = reads_point p l line says.More bytes rest e (point_some p line e right) h is in
-    subst (λ (x : Progress). IsProgress x.place x.line) r.progress (lines_all (record { place = p; line = line }) (take (length bytes - length rest) bytes) right)
+    subst (λ (x : Progress). IsProgress x.place x.line) r.progress
+    (lines_all (record { place = p; line = line }) (take (length bytes - length rest) bytes) right)
 
 -- the same, as what a call leaves and says
-pub point_progress : (p : Place) (l : PointLine) (line : ℕ) (bytes rest : List ℕ) → p.expected ≡ Rest word.Point 0 → IsProgress p line → IsLineOf p.version l → bytes ≡ point_text l ++ rest
-    → record { place = after_point p.version p.task p.after (p.points - 1); line = line + 1 } ≡ after_bytes (record { place = p; line = line }) (take (length bytes - length rest) bytes)
+pub point_progress : (p : Place) (l : PointLine) (line : ℕ) (bytes rest : List ℕ) → p.expected ≡ Rest word.Point 0 →
+    IsProgress p line → IsLineOf p.version l → bytes ≡ point_text l ++ rest
+    → record { place = after_point p.version p.task p.after (p.points - 1); line = line + 1 } ≡ after_bytes
+    (record { place = p; line = line }) (take (length bytes - length rest) bytes)
 point_progress p l line bytes rest e right h is = sym (reads_point p l line says.More bytes rest e (point_some p line e right) h is).progress
 
-pub point_said : (p : Place) (l : PointLine) (line : ℕ) (s : LineStep) (bytes rest : List ℕ) → p.expected ≡ Rest word.Point 0 → IsProgress p line → IsLineOf p.version l → bytes ≡ point_text l ++ rest
+pub point_said : (p : Place) (l : PointLine) (line : ℕ) (s : LineStep) (bytes rest : List ℕ) → p.expected ≡ Rest word.Point 0 →
+    IsProgress p line → IsLineOf p.version l → bytes ≡ point_text l ++ rest
     → point_step l ≡ said_after s (record { place = p; line = line }) (take (length bytes - length rest) bytes)
 point_said p l line s bytes rest e right h is = sym (reads_point p l line s bytes rest e (point_some p line e right) h is).step
 
 -- a number in front of the bytes
-pub number_in_front : (bytes : List ℕ) (n v ender : ℕ) → n < length bytes → 0 < n → AllDigits 10 (take n bytes) → v ≡ digits_value 10 (take n bytes) → v < 10 ^ 18
+pub number_in_front : (bytes : List ℕ) (n v ender : ℕ) → n < length bytes → 0 < n → AllDigits 10 (take n bytes) →
+    v ≡ digits_value 10 (take n bytes) → v < 10 ^ 18
     → get_or bytes n 0 ≡ ender → (get_or bytes 0 0 ≡ 48 → n ≡ 1) → bytes ≡ decimal v ++ (ender ∷ drop (n + 1) bytes)
 number_in_front bytes n v ender inside some all value small next lead =
     let long : length (take n bytes) ≡ n = length-take-le n bytes (omega arith) in
     let first : get_or (take n bytes) 0 0 ≡ get_or bytes 0 0 = get_or-take n bytes 0 0 some in
     let is : take n bytes ≡ decimal v = canonical (take n bytes) v (omega arith) all value (omega arith) (λ e. long ∙ lead (sym first ∙ e)) in
-    sym (take-append-drop n bytes) ∙ ap (λ (t : List ℕ). t ++ drop n bytes) is ∙ ap (λ (t : List ℕ). decimal v ++ t) (drop_more bytes n 0 inside ∙ ap (λ (x : ℕ). x ∷ drop (n + 1) bytes) next)
+    sym (take-append-drop n bytes) ∙ ap (λ (t : List ℕ). t ++ drop n bytes) is ∙
+    ap (λ (t : List ℕ). decimal v ++ t) (drop_more bytes n 0 inside ∙ ap (λ (x : ℕ). x ∷ drop (n + 1) bytes) next)
 
 -- the same, with what follows as a slice gives it
 pub number_taken : (bytes : List ℕ) (n v ender : ℕ) → n < length bytes → n ≢ 0 → AllDigits 10 (take n bytes) → v ≡ digits_value 10 (take n bytes) → v < 10 ^ 18
@@ -178,7 +209,8 @@ word_in_front (x ∷ (y ∷ bytes)) text h e f g =
     ap (λ (a : ℕ). a ∷ (y ∷ bytes)) e ∙ ap (λ (a : ℕ). 112 ∷ (a ∷ bytes)) f ∙ ap (λ (t : List ℕ). 112 ∷ (32 ∷ t)) g
 
 -- a whole line in front of the bytes
-pub plain_in_front : (bytes rest : List ℕ) (p : Point) → bytes ≡ 112 ∷ (32 ∷ (decimal p.offset ++ (32 ∷ (decimal p.end ++ (10 ∷ rest))))) → bytes ≡ point_text (point_line p None) ++ rest
+pub plain_in_front : (bytes rest : List ℕ) (p : Point) →
+    bytes ≡ 112 ∷ (32 ∷ (decimal p.offset ++ (32 ∷ (decimal p.end ++ (10 ∷ rest))))) → bytes ≡ point_text (point_line p None) ++ rest
 plain_in_front bytes rest p e = e ∙ simp append_assoc
 
 pub terms_in_front : (bytes more rest : List ℕ) (p : Point) (t : Terms) → bytes ≡ 112 ∷ (32 ∷ (decimal p.offset ++ (32 ∷ (decimal p.end ++ (32 ∷ more)))))

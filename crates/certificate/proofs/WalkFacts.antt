@@ -1,5 +1,7 @@
 -- Reading the text of a certificate leads over it, and says its lines.
-use Rattle.std.proofs.Common.{◌≡◌, ℕ, suc, zero, ◌+◌, ◌-◌, ◌*◌, ◌/◌, ◌%◌, ◌^◌, ◌<◌, ◌≤◌, ◌==◌, true, false, cond, nat_le, Option, Some, None, List, [], ◌∷◌, ◌++◌, length, get_or, drop, map, slice_index, codes, refl, sym, ap, ◌∙◌, arith, append_assoc, decimal, All, add-zero, length-drop, get_or-drop}
+use Rattle.std.proofs.Common.{◌≡◌, ℕ, suc, zero, ◌+◌, ◌-◌, ◌*◌, ◌/◌, ◌%◌, ◌^◌, ◌<◌, ◌≤◌, ◌==◌, true, false, cond, nat_le, Option, Some, None, List}
+use Rattle.std.proofs.Common.{[], ◌∷◌, ◌++◌, length, get_or, drop, map, slice_index, codes, refl, sym, ap, ◌∙◌, arith, append_assoc, decimal, All}
+use Rattle.std.proofs.Common.{add-zero, length-drop, get_or-drop}
 use Rattle.std.specs.List.{flat_map}
 use Rattle.std.proofs.lemmas.List.{append-nil, drop-drop}
 use Rattle.std.proofs.lemmas.List.Elements.{All-head, All-tail}
@@ -8,7 +10,8 @@ use Rattle.std.proofs.lemmas.Bool.Decides.{nat_tests}
 use Rattle.lists.specs.Limits.{most_tasks}
 use Rattle.poet_io.proofs.DecimalFacts.{IsOneLine, one_line_append, decimal_one_line, digit_test, digit_is_no_newline}
 use Rattle.certificate.proofs.FieldFacts.{least_one, greatest_small, ender_small}
-use Rattle.certificate.specs.Text.{PointLine, point_line, lines_of, point_text, points_text, entry_line, entries_text, head_of, text_of, IsPoint, IsTerms, IsEntry, HasTermsOf, IsWithinGrammar}
+use Rattle.certificate.specs.Text.{PointLine, point_line, lines_of, point_text, points_text, entry_line, entries_text, head_of, text_of, IsPoint}
+use Rattle.certificate.specs.Text.{IsTerms, IsEntry, HasTermsOf, IsWithinGrammar}
 use Rattle.certificate.specs.Steps.{point_step, points_steps, entries_steps, steps_of}
 use Rattle.certificate.specs.declared.cert.Version.{Version}
 use Rattle.certificate.specs.declared.cert.Version.TheVariants.{One, Two}
@@ -31,14 +34,16 @@ pub walk-append : (ss : List LineStep) (p : Place) (xs ys : List ℕ) → walk s
 walk-append ss p [] ys = refl
 walk-append ss p (x ∷ xs) ys = walk-append (cond (x == 10) (ss ++ (next_place p x).1 ∷ []) ss) (next_place p x).0 xs ys
 
-head_read : (ss : List LineStep) (v : Version) (t : List ℕ) → walk ss start (head_of v ++ (codes "tasks " ++ t)) ≡ walk (ss ++ says.More ∷ []) (at_place v (Number field.Tasks) 0 0 0) t
+head_read : (ss : List LineStep) (v : Version) (t : List ℕ) →
+    walk ss start (head_of v ++ (codes "tasks " ++ t)) ≡ walk (ss ++ says.More ∷ []) (at_place v (Number field.Tasks) 0 0 0) t
 head_read ss One t = refl
 head_read ss Two t = refl
 
 end_read : (ss : List LineStep) (v : Version) → walk ss (at_place v (Rest word.End 0) 0 0 0) (codes "end\n") ≡ (ss ++ says.End ∷ [], at_place v Over 0 0 0)
 end_read ss v = refl
 
-point_read : (ss : List LineStep) (v : Version) (i m k : ℕ) (t : List ℕ) → walk ss (at_place v (Rest word.Point 0) i m k) (codes "p " ++ t) ≡ walk ss (at_place v (Number field.Offset) i m k) t
+point_read : (ss : List LineStep) (v : Version) (i m k : ℕ) (t : List ℕ) →
+    walk ss (at_place v (Rest word.Point 0) i m k) (codes "p " ++ t) ≡ walk ss (at_place v (Number field.Offset) i m k) t
 point_read ss v i m k t = refl
 
 step_to : (ss : List LineStep) (p q : Place) (s : LineStep) (x : ℕ) (t : List ℕ) → (x == 10) ≡ false → next_place p x ≡ (q, s) → walk ss p (x ∷ t) ≡ walk ss q t
@@ -48,13 +53,15 @@ step_to ss p q s x t e h = rw (e, h) refl
 task_rest : (ss : List LineStep) (v : Version) (i m k at : ℕ) (c : ℕ) (rest t : List ℕ) → drop at (word_text word.Task i) ≡ c ∷ rest → IsOneLine (c ∷ rest)
     → walk ss (at_place v (Rest word.Task at) i m k) ((c ∷ rest) ++ t) ≡ walk ss (at_place v (Number field.Window) i m k) t
 task_rest ss v i m k at c [] t e one =
-    let here : slice_index (word_text word.Task i) at ≡ c = sym (rw add-zero at (get_or-drop at (word_text word.Task i) 0 0)) ∙ ap (λ (l : List ℕ). get_or l 0 0) e in
+    let here : slice_index (word_text word.Task i) at ≡ c = sym (rw add-zero at (get_or-drop at (word_text word.Task i) 0 0)) ∙
+    ap (λ (l : List ℕ). get_or l 0 0) e in
     let last : length (word_text word.Task i) ≡ at + 1 = omega (arith, length-drop at (word_text word.Task i), ap length e) in
     let a : (slice_index (word_text word.Task i) at == c) ≡ true = grind (arith, nat_tests) in
     let b : (at + 1 == length (word_text word.Task i)) ≡ true = grind (arith, nat_tests) in
     step_to ss (at_place v (Rest word.Task at) i m k) (at_place v (Number field.Window) i m k) says.More c t one.0 (rw (a, b) refl)
 task_rest ss v i m k at c (d ∷ rest) t e one =
-    let here : slice_index (word_text word.Task i) at ≡ c = sym (rw add-zero at (get_or-drop at (word_text word.Task i) 0 0)) ∙ ap (λ (l : List ℕ). get_or l 0 0) e in
+    let here : slice_index (word_text word.Task i) at ≡ c = sym (rw add-zero at (get_or-drop at (word_text word.Task i) 0 0)) ∙
+    ap (λ (l : List ℕ). get_or l 0 0) e in
     let last : at + 1 < length (word_text word.Task i) = omega (arith, length-drop at (word_text word.Task i), ap length e) in
     let a : (slice_index (word_text word.Task i) at == c) ≡ true = grind (arith, nat_tests) in
     let b : (at + 1 == length (word_text word.Task i)) ≡ false = grind (arith, nat_tests) in
@@ -74,7 +81,8 @@ first_read : (f : Field) (ss : List LineStep) (v : Version) (i m k n : ℕ) (t :
 first_read f ss v i m k n t small low =
     let w : 48 + n - 48 ≡ n = omega arith in
     let b : nat_le (least f) n ≡ true = grind (arith, nat_tests) in
-    step_to ss (at_place v (Number f) i m k) (at_place v (Digits f n) i m k) says.More (48 + n) t (digit_is_no_newline n small) (rw (w, digit_test n small, b) refl)
+    step_to ss (at_place v (Number f) i m k) (at_place v (Digits f n) i m k) says.More (48 + n) t (digit_is_no_newline n small)
+    (rw (w, digit_test n small, b) refl)
 
 more_read : (f : Field) (ss : List LineStep) (v : Version) (i m k n d : ℕ) (t : List ℕ) → d < 10 → 0 < n → n * 10 + d ≤ greatest f
     → walk ss (at_place v (Digits f n) i m k) ((48 + d) ∷ t) ≡ walk ss (at_place v (Digits f (n * 10 + d)) i m k) t
@@ -84,12 +92,14 @@ more_read f ss v i m k n d t small pos fits =
     let a : (48 + d == ender v f) ≡ false = grind (arith, nat_tests) in
     let b : (n == 0) ≡ false = grind (arith, nat_tests) in
     let e : nat_le (n * 10 + d) (greatest f) ≡ true = grind (arith, nat_tests) in
-    step_to ss (at_place v (Digits f n) i m k) (at_place v (Digits f (n * 10 + d)) i m k) says.More (48 + d) t (digit_is_no_newline d small) (rw (w, a, digit_test d small, b, e) refl)
+    step_to ss (at_place v (Digits f n) i m k) (at_place v (Digits f (n * 10 + d)) i m k) says.More (48 + d) t
+    (digit_is_no_newline d small) (rw (w, a, digit_test d small, b, e) refl)
 
 pub number_read : (f : Field) (v : Version) (i m k n : ℕ) → n < 10 ^ 64 → least f ≤ n → n ≤ greatest f → (ss : List LineStep) (t : List ℕ)
     → walk ss (at_place v (Number f) i m k) (decimal n ++ t) ≡ walk ss (at_place v (Digits f n) i m k) t
 number_read f v i m k n fits = decimal_by_steps_wide
-    (λ n ds. least f ≤ n → n ≤ greatest f → (ss : List LineStep) (t : List ℕ) → walk ss (at_place v (Number f) i m k) (ds ++ t) ≡ walk ss (at_place v (Digits f n) i m k) t)
+    (λ n ds. least f ≤ n → n ≤ greatest f → (ss : List LineStep) (t : List ℕ) →
+    walk ss (at_place v (Number f) i m k) (ds ++ t) ≡ walk ss (at_place v (Digits f n) i m k) t)
     (λ n small low high ss t. first_read f ss v i m k n t small low)
     (λ n ds big before low high ss t.
     let one = least_one f in
@@ -101,7 +111,8 @@ number_read f v i m k n fits = decimal_by_steps_wide
 
 -- a number and the byte behind it
 field_read : (f : Field) (v : Version) (i m k n : ℕ) → least f ≤ n → n ≤ greatest f → (ss : List LineStep) (t : List ℕ)
-    → walk ss (at_place v (Number f) i m k) (decimal n ++ (ender v f ∷ t)) ≡ walk (cond (ender v f == 10) (ss ++ (after_number v i m k f n).1 ∷ []) ss) (after_number v i m k f n).0 t
+    → walk ss (at_place v (Number f) i m k) (decimal n ++ (ender v f ∷ t)) ≡ walk
+    (cond (ender v f == 10) (ss ++ (after_number v i m k f n).1 ∷ []) ss) (after_number v i m k f n).0 t
 field_read f v i m k n low high ss t =
     let e : (ender v f == ender v f) ≡ true = grind (arith, nat_tests) in
     let one : next_place (at_place v (Digits f n) i m k) (ender v f) ≡ after_number v i m k f n = rw e refl in
@@ -110,7 +121,8 @@ field_read f v i m k n low high ss t =
 
 -- the terms of a point
 terms_read : (p : Point) (t : Terms) (ss : List LineStep) (i m k : ℕ) (rest : List ℕ) → IsTerms t
-    → walk ss (at_place Two (Number (field.Blocking p)) i m (suc k)) (decimal t.blocking ++ (32 ∷ (decimal t.own ++ (32 ∷ (decimal t.others ++ (32 ∷ (decimal t.need ++ (10 ∷ rest))))))))
+    → walk ss (at_place Two (Number (field.Blocking p)) i m (suc k))
+    (decimal t.blocking ++ (32 ∷ (decimal t.own ++ (32 ∷ (decimal t.others ++ (32 ∷ (decimal t.need ++ (10 ∷ rest))))))))
     ≡ walk (ss ++ says.Point p.offset p.end (Some t) ∷ []) (after_point Two i m k) rest
 terms_read p t ss i m k rest h =
     let less : suc k - 1 ≡ k = omega arith in
@@ -162,12 +174,14 @@ points_place v i m (suc k) n h e = ap (after_point v i m) (sym e)
 
 -- an entry's lines
 one_entry : (v : Version) (e : Entry) (ss : List LineStep) (i m : ℕ) (t : List ℕ) → i < most_tasks → IsEntry e → HasTermsOf v e
-    → walk ss (at_place v (Rest word.Task 0) i m 0) (entry_line i e ++ (points_text e ++ t)) ≡ walk (ss ++ (says.Entry i e.window e.bound (length e.points) ∷ points_steps e)) (after_entry v i m) t
+    → walk ss (at_place v (Rest word.Task 0) i m 0) (entry_line i e ++ (points_text e ++ t)) ≡ walk
+    (ss ++ (says.Entry i e.window e.bound (length e.points) ∷ points_steps e)) (after_entry v i m) t
 one_entry v e ss i m t small h has =
     let n = length e.points in
     let ls = lines_of e.points e.terms in
     let rest = points_text e ++ t in
-    let same : entry_line i e ++ rest ≡ codes "task " ++ (decimal i ++ (codes " " ++ (decimal e.window ++ (32 ∷ (decimal e.bound ++ (32 ∷ (decimal n ++ (10 ∷ rest)))))))) = simp append_assoc in
+    let same : entry_line i e ++ rest ≡ codes "task " ++
+    (decimal i ++ (codes " " ++ (decimal e.window ++ (32 ∷ (decimal e.bound ++ (32 ∷ (decimal n ++ (10 ∷ rest)))))))) = simp append_assoc in
     let said = says.Entry i e.window e.bound n in
     ap (walk ss (at_place v (Rest word.Task 0) i m 0)) same
     ∙ task_read ss v i m 0 (decimal e.window ++ (32 ∷ (decimal e.bound ++ (32 ∷ (decimal n ++ (10 ∷ rest)))))) (omega arith)
@@ -179,7 +193,8 @@ one_entry v e ss i m t small h has =
     ∙ ap (λ (l : List LineStep). walk l (after_entry v i m) t) (append_assoc ss (said ∷ []) (map point_step ls))
 
 all_entries : (v : Version) (es : List Entry) (ss : List LineStep) (i : ℕ) → i + length es < most_tasks → All IsEntry es → All (HasTermsOf v) es
-    → walk ss (after_entry v i (length es)) (entries_text (suc i) es ++ codes "end\n") ≡ (ss ++ (entries_steps (suc i) es ++ says.End ∷ []), at_place v Over 0 0 0)
+    → walk ss (after_entry v i (length es)) (entries_text (suc i) es ++ codes "end\n") ≡
+    (ss ++ (entries_steps (suc i) es ++ says.End ∷ []), at_place v Over 0 0 0)
 all_entries v [] ss i small h has = end_read ss v
 all_entries v (e ∷ es) ss i small h has =
     let others = entries_text (suc (suc i)) es ++ codes "end\n" in

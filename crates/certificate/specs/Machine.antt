@@ -1,5 +1,6 @@
 -- Where a certificate's text stands after some bytes, and what the next byte does.
-use Rattle.std.specs.Prelude.{◌≡◌, ℕ, Some, None, suc, zero, ◌+◌, ◌-◌, ◌*◌, ◌<◌, ◌≤◌, ◌==◌, Bool, true, false, not, ◌&&◌, if◌then◌else◌, nat_le, List, [], ◌∷◌, ◌++◌, length, slice_index, codes, decimal}
+use Rattle.std.specs.Prelude.{◌≡◌, ℕ, Some, None, suc, zero, ◌+◌, ◌-◌, ◌*◌, ◌<◌, ◌≤◌, ◌==◌, Bool, true, false, not, ◌&&◌, if◌then◌else◌, nat_le, List}
+use Rattle.std.specs.Prelude.{[], ◌∷◌, ◌++◌, length, slice_index, codes, decimal}
 use Rattle.std.specs.Char.{is_ascii_digit}
 use Rattle.lists.specs.Limits.{greatest_number, most_tasks, most_points}
 use Rattle.certificate.specs.Progress.{Progress}
@@ -110,7 +111,8 @@ after_number v i m k (field.Need p b o h) n = (after_point v i m (k - 1), says.P
 abbrev pub in_word : Version → ℕ → ℕ → ℕ → Word → ℕ → ℕ → Place × LineStep
 in_word v i m k w at x =
     let text = word_text w i in
-    if slice_index text at == x then (if at + 1 == length text then (at_place v (after_word w) i m k, word_step w) else (at_place v (Rest w (at + 1)) i m k, says.More)) else bad
+    if slice_index text at == x then (if at + 1 == length text then (at_place v (after_word w) i m k, word_step w) else
+    (at_place v (Rest w (at + 1)) i m k, says.More)) else bad
 
 -- the digit of a version
 abbrev pub digit_of : Version → ℕ
@@ -132,7 +134,8 @@ first_digit v i m k f x =
 abbrev pub more_digits : Version → ℕ → ℕ → ℕ → Field → ℕ → ℕ → Place × LineStep
 more_digits v i m k f n x =
     if x == ender v f then after_number v i m k f n else
-    (if is_ascii_digit x && (not (n == 0) && nat_le (n * 10 + (x - 48)) (greatest f)) then (at_place v (Digits f (n * 10 + (x - 48))) i m k, says.More) else bad)
+    (if is_ascii_digit x && (not (n == 0) && nat_le (n * 10 + (x - 48)) (greatest f)) then
+    (at_place v (Digits f (n * 10 + (x - 48))) i m k, says.More) else bad)
 
 -- the byte x where `e` is expected
 abbrev pub next_at : Version → Expected → ℕ → ℕ → ℕ → ℕ → Place × LineStep

@@ -40,7 +40,8 @@ point_text l = codes "p " ++ (decimal l.point.offset ++ (codes " " ++ (decimal l
 -- the first line of the i-th entry: task I WINDOW BOUND COUNT
 abbrev pub entry_line : ℕ → Entry → List ℕ
 entry_line i e =
-    codes "task " ++ (decimal i ++ (codes " " ++ (decimal e.window ++ (codes " " ++ (decimal e.bound ++ (codes " " ++ (decimal (length e.points) ++ codes "\n")))))))
+    codes "task " ++ (decimal i ++
+    (codes " " ++ (decimal e.window ++ (codes " " ++ (decimal e.bound ++ (codes " " ++ (decimal (length e.points) ++ codes "\n")))))))
 
 -- the lines of the points of an entry
 abbrev pub points_text : Entry → List ℕ

@@ -16,7 +16,9 @@ LiesBelow (Some before) window = before < window
 -- a task that fails after tasks that do not is the first that fails
 pub failed_at : (p : PolicyMeaning) (m : CutMeaning) (sbf : ℕ → ℕ) (sheet : SheetParts) (deadlines : Bool) (cert : Cert) (i : ℕ) (f : Failed) →
     length cert.entries ≡ length sheet.tasks → i < length sheet.tasks →
-    tasks_failed_of p m sbf sheet deadlines cert i ≡ None → task_failed_of p m sbf sheet deadlines i (entry_at cert i) ≡ Some f → failed_of p m sbf sheet deadlines cert ≡ Some f
+    tasks_failed_of p m sbf sheet deadlines cert i ≡ None → task_failed_of p m sbf sheet deadlines i (entry_at cert i) ≡ Some f →
+    failed_of p m sbf sheet deadlines cert ≡ Some f
 unfolding failed_of
 failed_at p m sbf sheet deadlines cert i f e l before here =
-    rw (eq-eqb (length cert.entries) (length sheet.tasks) e) (first_stays (λ k. task_failed_of p m sbf sheet deadlines k (entry_at cert k)) f (length sheet.tasks) i l before here)
+    rw (eq-eqb (length cert.entries) (length sheet.tasks) e)
+    (first_stays (λ k. task_failed_of p m sbf sheet deadlines k (entry_at cert k)) f (length sheet.tasks) i l before here)

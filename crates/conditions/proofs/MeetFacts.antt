@@ -11,7 +11,8 @@ use Rattle.certificate.specs.declared.cert.Cert.{Cert}
 use Rattle.certificate.specs.declared.cert.Point.{Point}
 use Rattle.demand.specs.Meeting.{IsWindow, MeetsEnd, MeetsBound, ComesNext, KeepsGap, PointMeets, PointsMeet}
 use Rattle.conditions.specs.declared.failed.Cond.{Cond}
-use Rattle.conditions.specs.Conditions.{entry_at, is_window, is_in_time, comes_next, ends_within, meets_end, rest_within, gap_failed_of, point_failed_of, points_failed_of, named, task_failed_of, failed_of}
+use Rattle.conditions.specs.Conditions.{entry_at, is_window, is_in_time, comes_next, ends_within, meets_end, rest_within, gap_failed_of}
+use Rattle.conditions.specs.Conditions.{point_failed_of, points_failed_of, named, task_failed_of, failed_of}
 use Rattle.conditions.specs.Meets.{IsInTime, pairs_of, TaskMeets, CertMeets}
 
 pub pairs_count : (points : List Point) → length (pairs_of points) ≡ length points
@@ -41,7 +42,8 @@ module _ (p : PolicyMeaning) (m : CutMeaning) (sbf : ℕ → ℕ) (sheet : Sheet
       record { positive = leb-true _ _ parts.0; enough = leb-true _ _ parts.1 }
 
   pub window_true : (window : ℕ) → IsWindow p m sbf sheet i window → is_window p m sbf sheet i window ≡ true
-  window_true window meets = and_from (nat_le 1 window) (nat_le (window_need_of p m sheet i window) (sbf window)) (le-leb _ _ meets.positive) (le-leb _ _ meets.enough)
+  window_true window meets = and_from (nat_le 1 window) (nat_le (window_need_of p m sheet i window) (sbf window))
+      (le-leb _ _ meets.positive) (le-leb _ _ meets.enough)
 
   pub end_means : (a x : ℕ) → meets_end p m sbf sheet i a x ≡ true → MeetsEnd p m sbf sheet i a x
   end_means a x h = record { enough = leb-true _ _ h }
@@ -52,7 +54,8 @@ module _ (p : PolicyMeaning) (m : CutMeaning) (sbf : ℕ → ℕ) (sheet : Sheet
   pub bound_means : (a x bound : ℕ) → ends_within sheet i a x bound ≡ true → rest_within p m sbf sheet i a x bound ≡ true → MeetsBound p m sbf sheet i a x bound
   bound_means a x bound end rest = record { end = leb-true _ _ end; enough = leb-true _ _ rest }
 
-  pub point_means : (window bound : ℕ) (before : Option ℕ) (a x : ℕ) → point_failed_of p m sbf sheet i window bound before a x ≡ None → PointMeets p m sbf sheet i window bound before a x
+  pub point_means : (window bound : ℕ) (before : Option ℕ) (a x : ℕ) →
+      point_failed_of p m sbf sheet i window bound before a x ≡ None → PointMeets p m sbf sheet i window bound before a x
   point_means window bound before a x h =
       let one = first_parts _ _ h in
       let two = first_parts _ _ one.1 in
@@ -67,7 +70,8 @@ module _ (p : PolicyMeaning) (m : CutMeaning) (sbf : ℕ → ℕ) (sheet : Sheet
         within = bound_means a x bound (must_holds _ _ three.0) (must_holds _ _ four.1);
       }
 
-  pub point_none : (window bound : ℕ) (before : Option ℕ) (a x : ℕ) → PointMeets p m sbf sheet i window bound before a x → point_failed_of p m sbf sheet i window bound before a x ≡ None
+  pub point_none : (window bound : ℕ) (before : Option ℕ) (a x : ℕ) → PointMeets p m sbf sheet i window bound before a x →
+      point_failed_of p m sbf sheet i window bound before a x ≡ None
   point_none window bound before a x meets =
       first_from _ _ (must_from _ _ (and_from (comes_next before a) (nat_lt a window) (next_true before a meets.next) (lt-ltb a window meets.below)))
       (first_from _ _ (gap_none before a meets.gap)
@@ -84,7 +88,8 @@ module _ (p : PolicyMeaning) (m : CutMeaning) (sbf : ℕ → ℕ) (sheet : Sheet
   pub points_none : (window bound : ℕ) (before : Option ℕ) (qs : List Point) → PointsMeet p m sbf sheet i window bound before (pairs_of qs) →
       points_failed_of p m sbf sheet i window bound before qs ≡ None
   points_none window bound before [] meet = gap_none before window meet
-  points_none window bound before (q ∷ qs) meet = first_from _ _ (point_none window bound before q.offset q.end meet.0) (points_none window bound (Some q.offset) qs meet.1)
+  points_none window bound before (q ∷ qs) meet = first_from _ _ (point_none window bound before q.offset q.end meet.0)
+      (points_none window bound (Some q.offset) qs meet.1)
 
   time_means : (deadlines : Bool) (bound : ℕ) → is_in_time sheet deadlines i bound ≡ true → IsInTime sheet deadlines i bound
   time_means true bound h = leb-true _ _ h
@@ -125,7 +130,8 @@ cert_means p m sbf sheet deadlines cert h =
     let parts = first_parts _ _ h in
     record {
       count = eqb-true _ _ (must_holds _ _ parts.0);
-      tasks = λ i l. task_means p m sbf sheet i deadlines (entry_at cert i) (none_below (λ k. task_failed_of p m sbf sheet deadlines k (entry_at cert k)) (length sheet.tasks) i parts.1 l);
+      tasks = λ i l. task_means p m sbf sheet i deadlines (entry_at cert i)
+          (none_below (λ k. task_failed_of p m sbf sheet deadlines k (entry_at cert k)) (length sheet.tasks) i parts.1 l);
     }
 
 pub cert_none : (p : PolicyMeaning) (m : CutMeaning) (sbf : ℕ → ℕ) (sheet : SheetParts) (deadlines : Bool) (cert : Cert) →
@@ -133,4 +139,5 @@ pub cert_none : (p : PolicyMeaning) (m : CutMeaning) (sbf : ℕ → ℕ) (sheet 
 unfolding failed_of
 cert_none p m sbf sheet deadlines cert meets =
     first_from _ _ (must_from _ _ (eq-eqb _ _ meets.count))
-    (none_from (λ k. task_failed_of p m sbf sheet deadlines k (entry_at cert k)) (length sheet.tasks) (λ i l. task_none p m sbf sheet i deadlines (entry_at cert i) (meets.tasks i l)))
+    (none_from (λ k. task_failed_of p m sbf sheet deadlines k (entry_at cert k)) (length sheet.tasks)
+    (λ i l. task_none p m sbf sheet i deadlines (entry_at cert i) (meets.tasks i l)))

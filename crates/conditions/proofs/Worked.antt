@@ -39,10 +39,12 @@ unfolding failed_of task_failed_of need_of blocking_of own_of others_of window_n
 jitter_points_meets = refl
 
 -- in the order of arrivals, a task with jitter and one that is never preempted
-jitter_blocking_meets : failed_of fifo_meaning per_task_meaning (λ d. d) jitter_blocking false (cert (entry 6 8 (point_of 0 6 ∷ []) ∷ entry 4 4 (point_of 0 2 ∷ []) ∷ [])) ≡ None
+jitter_blocking_meets : failed_of fifo_meaning per_task_meaning (λ d. d) jitter_blocking false
+    (cert (entry 6 8 (point_of 0 6 ∷ []) ∷ entry 4 4 (point_of 0 2 ∷ []) ∷ [])) ≡ None
 unfolding failed_of task_failed_of need_of blocking_of own_of others_of window_need_of value_of alpha_of no_task no_entry
 jitter_blocking_meets = refl
 
-jitter_blocking_rest : failed_of fifo_meaning per_task_meaning (λ d. d) jitter_blocking false (cert (entry 6 8 (point_of 0 6 ∷ []) ∷ entry 4 3 (point_of 0 2 ∷ []) ∷ [])) ≡ Some (of_point 1 0 K8)
+jitter_blocking_rest : failed_of fifo_meaning per_task_meaning (λ d. d) jitter_blocking false
+    (cert (entry 6 8 (point_of 0 6 ∷ []) ∷ entry 4 3 (point_of 0 2 ∷ []) ∷ [])) ≡ Some (of_point 1 0 K8)
 unfolding failed_of task_failed_of need_of blocking_of own_of others_of window_need_of value_of alpha_of no_task no_entry
 jitter_blocking_rest = refl

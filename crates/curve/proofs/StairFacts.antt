@@ -67,15 +67,18 @@ value_split (s ∷ steps) before t (suc n) d split =
     rw (le-leb s.time t (split.early 0 d (omega arith))) (value_split steps s.value t n d (split_rest s steps t (suc n) split))
 
 -- the first step that has not come
-pub next_split : (horizon : ℕ) (steps : List Step) (t n : ℕ) (d : Step) → IsSplit steps t n → n < length steps → next_time_of horizon steps t ≡ (slice_index_or steps n d).time
+pub next_split : (horizon : ℕ) (steps : List Step) (t n : ℕ) (d : Step) → IsSplit steps t n → n < length steps →
+    next_time_of horizon steps t ≡ (slice_index_or steps n d).time
 next_split horizon [] t n d split h = absurd (omega arith)
 next_split horizon (s ∷ steps) t zero d split h = rw (lt-ltb t s.time (split.late 0 d (omega arith) (omega arith))) refl
-next_split horizon (s ∷ steps) t (suc n) d split h = rw (le-ltb t s.time (split.early 0 d (omega arith))) (next_split horizon steps t n d (split_rest s steps t n split) (omega arith))
+next_split horizon (s ∷ steps) t (suc n) d split h = rw (le-ltb t s.time (split.early 0 d (omega arith)))
+    (next_split horizon steps t n d (split_rest s steps t n split) (omega arith))
 
 pub next_end : (horizon : ℕ) (steps : List Step) (t n : ℕ) → IsSplit steps t n → length steps ≤ n → next_time_of horizon steps t ≡ horizon + 1
 next_end horizon [] t n split h = refl
 next_end horizon (s ∷ steps) t zero split h = absurd (omega arith)
-next_end horizon (s ∷ steps) t (suc n) split h = rw (le-ltb t s.time (split.early 0 s (omega arith))) (next_end horizon steps t n (split_rest s steps t n split) (omega arith))
+next_end horizon (s ∷ steps) t (suc n) split h = rw (le-ltb t s.time (split.early 0 s (omega arith)))
+    (next_end horizon steps t n (split_rest s steps t n split) (omega arith))
 
 -- at the time of the last step that has come, the same steps have come
 pub split_back : (steps : List Step) (t n : ℕ) (d : Step) → RiseFrom 0 0 steps → IsSplit steps t (suc n) → IsSplit steps (slice_index_or steps n d).time (suc n)
@@ -90,7 +93,8 @@ pub value_last : (steps : List Step) (t n : ℕ) (d : Step) → IsSplit steps t 
 value_last steps t zero d split some = absurd (some refl)
 value_last steps t (suc n) d split some = let e : suc n - 1 ≡ n = omega arith in rw e (value_split steps 0 t n d split)
 
-pub back_last : (steps : List Step) (t n : ℕ) (d : Step) → RiseFrom 0 0 steps → IsSplit steps t n → (n ≡ 0 → ⊥) → IsSplit steps (slice_index_or steps (n - 1) d).time n
+pub back_last : (steps : List Step) (t n : ℕ) (d : Step) → RiseFrom 0 0 steps → IsSplit steps t n → (n ≡ 0 → ⊥) →
+    IsSplit steps (slice_index_or steps (n - 1) d).time n
 back_last steps t zero d rise split some = absurd (some refl)
 back_last steps t (suc n) d rise split some = let e : suc n - 1 ≡ n = omega arith in rw e (split_back steps t n d rise split)
 
@@ -119,7 +123,14 @@ stair_at c ok q r l s b landing value_is from_is until_is =
       open_yet = omega (arith, until, rise.later);
       flat = λ y low high.
           let at : q * c.horizon + (y - q * c.horizon) ≡ y = omega (arith, from_is, low) in
-          omega (arith, ap (alpha_of c) at, stair_flat c ok q r (y - q * c.horizon) l b landing (omega (arith, from_is, low)) (omega (arith, until_is, high, from_is, low)), landing.value, value_is);
+          omega (
+            arith,
+            ap (alpha_of c) at,
+            stair_flat c ok q r (y - q * c.horizon) l b landing (omega (arith, from_is, low))
+                (omega (arith, until_is, high, from_is, low)),
+            landing.value,
+            value_is,
+          );
       higher = omega (arith, ap (alpha_of c) until, rise.higher, alpha_at c ok q r (omega arith), landing.value, value_is);
     }
 
@@ -127,9 +138,11 @@ pub stair_is : (c : Curve) → IsCurve c → (d : ℕ) (l s : Stair) → IsLandi
     s.value ≡ d / c.horizon * value_of c c.horizon + l.value → s.from ≡ d - d % c.horizon + l.from → s.until ≡ d - d % c.horizon + l.until → IsStair c s d
 stair_is c ok d l s landing value_is from_is until_is =
     let whole = div-add-mod' d c.horizon in
-    subst (IsStair c s) whole (stair_at c ok (d / c.horizon) (d % c.horizon) l s (mod_below d c.horizon ok.horizon_low) landing value_is (omega (arith, whole, from_is)) (omega (arith, whole, until_is)))
+    subst (IsStair c s) whole (stair_at c ok (d / c.horizon) (d % c.horizon) l s
+    (mod_below d c.horizon ok.horizon_low) landing value_is (omega (arith, whole, from_is)) (omega (arith, whole, until_is)))
 
-last_time_high : (steps : List Step) (time value : ℕ) → RiseFrom time value steps → (k : ℕ) (d : Step) → k < length steps → (slice_index_or steps k d).time ≤ last_time time steps
+last_time_high : (steps : List Step) (time value : ℕ) → RiseFrom time value steps → (k : ℕ) (d : Step) → k < length steps →
+    (slice_index_or steps k d).time ≤ last_time time steps
 last_time_high [] time value r k d h = absurd (omega arith)
 last_time_high (s ∷ steps) time value r zero d h = last_time_kept s.time s.value steps r.2
 last_time_high (s ∷ steps) time value r (suc k) d h = last_time_high steps s.time s.value r.2 k d (omega arith)

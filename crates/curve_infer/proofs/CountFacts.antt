@@ -1,4 +1,5 @@
-use Rattle.std.proofs.Common.{◌≡◌, ℕ, zero, suc, ◌+◌, ◌<◌, ◌≤◌, ◌&&◌, Bool, true, cond, leb, ltb, List, [], ◌∷◌, length, get_or, count_by, refl, ap, arith, inl, inr}
+use Rattle.std.proofs.Common.{◌≡◌, ℕ, zero, suc, ◌+◌, ◌<◌, ◌≤◌, ◌&&◌, Bool, true, cond, leb, ltb, List, [], ◌∷◌, length, get_or, count_by, refl, ap}
+use Rattle.std.proofs.Common.{arith, inl, inr}
 use Rattle.std.proofs.lemmas.Bool.{cases_lt, and_parts, leb-true}
 use Rattle.std.proofs.lemmas.Bool.Decides.{nat_tests}
 use Rattle.std.proofs.lemmas.List.Sums.{sum_by-cons, count_by-le-length}
@@ -9,9 +10,17 @@ use Rattle.curve_infer.specs.Traces.{are_times}
 use Rattle.curve_infer.specs.Curves.{times_in, last_of, ArriveAs}
 
 -- what passes one test passes just one of two others
-count_add : {X : Type 0} (p q r : X → Bool) (xs : List X) → ((x : X) → cond {A = ℕ} (p x) 1 0 ≡ cond (q x) 1 0 + cond (r x) 1 0) → count_by p xs ≡ count_by q xs + count_by r xs
+count_add : {X : Type 0} (p q r : X → Bool) (xs : List X) → ((x : X) → cond {A = ℕ} (p x) 1 0 ≡ cond (q x) 1 0 + cond (r x) 1 0) →
+    count_by p xs ≡ count_by q xs + count_by r xs
 count_add p q r [] h = refl
-count_add p q r (x ∷ xs) h = omega (arith, sum_by-cons (λ y. cond (p y) 1 0) x xs, sum_by-cons (λ y. cond (q y) 1 0) x xs, sum_by-cons (λ y. cond (r y) 1 0) x xs, count_add p q r xs h, h x)
+count_add p q r (x ∷ xs) h = omega (
+  arith,
+  sum_by-cons (λ y. cond (p y) 1 0) x xs,
+  sum_by-cons (λ y. cond (q y) 1 0) x xs,
+  sum_by-cons (λ y. cond (r y) 1 0) x xs,
+  count_add p q r xs h,
+  h x,
+)
 
 count_zero : {X : Type 0} (p : X → Bool) (xs : List X) → ((x : X) → cond {A = ℕ} (p x) 1 0 ≡ 0) → count_by p xs ≡ 0
 count_zero p [] h = refl
@@ -148,4 +157,5 @@ counts_early (t ∷ times) before zero x h l e = elim (cases_lt t x) [
   | inl c ↦ c
   | inr c ↦ absurd (omega (arith, e, below_first t times x, ltb_fails t x c, none_early times t x (next_of before t times h).rest c))
 ]
-counts_early (t ∷ times) before (suc j) x h l e = counts_early times t j x (next_of before t times h).rest (omega arith) (omega (arith, e, below_first t times x, ltb_high t x))
+counts_early (t ∷ times) before (suc j) x h l e = counts_early times t j x (next_of before t times h).rest (omega arith)
+    (omega (arith, e, below_first t times x, ltb_high t x))

@@ -119,7 +119,8 @@ module _ (times : List ℕ) (ok : IsTrace times) (h : ℕ) (low : 1 ≤ h) (high
         absurd (omega (arith, c, here.soon next b (omega (arith, there.there next b (omega arith)))))
   ]
 
-  pub steps_stay : (n time next : ℕ) → IsNextRise times n h time → IsNextRise times (n + 1) h next → (time < next → ⊥) → steps_to (most_of times) (next - 1) ≡ steps_to (most_of times) (time - 1)
+  pub steps_stay : (n time next : ℕ) → IsNextRise times n h time → IsNextRise times (n + 1) h next → (time < next → ⊥) →
+      steps_to (most_of times) (next - 1) ≡ steps_to (most_of times) (time - 1)
   steps_stay n time next here there none =
       let order = rises_order n time next here there in
       let same : next - 1 ≡ time - 1 = elim (cases_lt time next) [

@@ -1,5 +1,6 @@
 -- Lines of a word and a number, and what may follow the lines read.
-use Rattle.std.proofs.Common.{◌≡◌, ℕ, zero, suc, ◌-◌, ◌<◌, ◌≤◌, ◌^◌, ◌⊎◌, true, cond, List, [], ◌∷◌, ◌++◌, length, take, drop, codes, decimal, refl, sym, ap, subst, ◌∙◌, arith, Option, Some, None, append_assoc, inl, inr}
+use Rattle.std.proofs.Common.{◌≡◌, ℕ, zero, suc, ◌-◌, ◌<◌, ◌≤◌, ◌^◌, ◌⊎◌, true, cond, List, [], ◌∷◌, ◌++◌, length, take, drop, codes, decimal, refl}
+use Rattle.std.proofs.Common.{sym, ap, subst, ◌∙◌, arith, Option, Some, None, append_assoc, inl, inr}
 use Rattle.std.specs.Prelude.{replicate}
 use Rattle.std.specs.List.{flat_map}
 use Rattle.std.specs.Option.{option_map}
@@ -30,8 +31,10 @@ number_lacks front n h b = lacks_append 10 front (decimal n) h (decimal_lacks 10
 -- what is written is read
 number_read : (front : List ℕ) (low high n : ℕ) → n < 2 ^ 64 → low ≤ n → n ≤ high → number_after front low high (front ++ decimal n) ≡ Some n
 number_read front low high n b above below =
-    let same : is_text (take (length front) (front ++ decimal n)) front ≡ true = ap (λ (l : List ℕ). is_text l front) (take-append_seam front (decimal n)) ∙ is_text-self front in
-    let word : number_in low high (drop (length front) (front ++ decimal n)) ≡ Some n = ap (λ (l : List ℕ). number_in low high l) (drop-append_seam front (decimal n)) ∙ number_in-decimal low high n b above below in
+    let same : is_text (take (length front) (front ++ decimal n)) front ≡ true =
+    ap (λ (l : List ℕ). is_text l front) (take-append_seam front (decimal n)) ∙ is_text-self front in
+    let word : number_in low high (drop (length front) (front ++ decimal n)) ≡ Some n =
+    ap (λ (l : List ℕ). number_in low high l) (drop-append_seam front (decimal n)) ∙ number_in-decimal low high n b above below in
     rw (same, word) refl
 
 -- what is read was written
@@ -46,7 +49,8 @@ number_back front low high line n = elim (cases_Bool (is_text (take (length fron
   | inl h ↦ rw h (λ e.
       let parts = number_in-Some low high (drop (length front) line) n e in
       record {
-        is = sym (take-append-drop (length front) line) ∙ ap (λ (l : List ℕ). l ++ drop (length front) line) (text_is (take (length front) line) front h) ∙ ap (λ (l : List ℕ). front ++ l) parts.0;
+        is = sym (take-append-drop (length front) line) ∙ ap (λ (l : List ℕ). l ++ drop (length front) line)
+            (text_is (take (length front) line) front h) ∙ ap (λ (l : List ℕ). front ++ l) parts.0;
         above = parts.1;
         below = parts.2;
       })
@@ -65,7 +69,8 @@ has_front_or_not line w = elim (begins_or_not w line) [
 abbrev SomeNumber : List ℕ → ℕ → ℕ → List ℕ → Type 0
 SomeNumber front low high w = (n : ℕ) × (n < suc high) × ((low ≤ n) × HasFront (front ++ decimal n) w)
 
-number_or_not : (front : List ℕ) (low : ℕ) (w : List ℕ) (n : ℕ) → ((low ≤ n) × HasFront (front ++ decimal n) w) ⊎ (((low ≤ n) × HasFront (front ++ decimal n) w) → ⊥)
+number_or_not : (front : List ℕ) (low : ℕ) (w : List ℕ) (n : ℕ) →
+    ((low ≤ n) × HasFront (front ++ decimal n) w) ⊎ (((low ≤ n) × HasFront (front ++ decimal n) w) → ⊥)
 number_or_not front low w n = elim (cases_lt n low) [
   | inl c ↦ inr (λ b. let l = b.0 in absurd (omega (arith, c, l)))
   | inr c ↦ elim (has_front_or_not (front ++ decimal n) w) [
@@ -89,7 +94,12 @@ pub record NextLine (p : Part) (w : List ℕ) : Type 0 where
 -- the next line is this one
 next_text : (p q : Part) (text w : List ℕ) → ((line : List ℕ) → after_line p line ≡ cond (is_text line text) (Some q) None) → NextLine p w ⊎ (NextLine p w → ⊥)
 next_text p q text w after = elim (has_front_or_not text w) [
-  | inl b ↦ inl (record { more = b.0; next = q; goes = after (w ++ b.0) ∙ ap (λ (l : List ℕ). cond (is_text l text) (Some q) None) (sym b.1) ∙ rw (is_text-self text) refl })
+  | inl b ↦ inl (record {
+    more = b.0;
+    next = q;
+    goes = after (w ++ b.0) ∙ ap (λ (l : List ℕ). cond (is_text l text) (Some q) None)
+        (sym b.1) ∙ rw (is_text-self text) refl;
+  })
   | inr out ↦ inr (λ n. elim (cases_Bool (is_text (w ++ n.more) text)) [
     | inl h ↦ out (n.more, sym (text_is (w ++ n.more) text h))
     | inr h ↦ absurd (let none : after_line p (w ++ n.more) ≡ None = after (w ++ n.more) ∙ rw h refl in let some = n.goes in cc)
@@ -101,12 +111,18 @@ none_maps f None q e = absurd (cc)
 none_maps f (Some n) q e = (n, refl, (let same : f n ≡ q = cc in same))
 
 -- the next line has a number
-next_number : (p : Part) (f : ℕ → Part) (front : List ℕ) (low high : ℕ) (w : List ℕ) → high < 2 ^ 64 → ((line : List ℕ) → after_line p line ≡ option_map f (number_after front low high line)) → NextLine p w ⊎ (NextLine p w → ⊥)
+next_number : (p : Part) (f : ℕ → Part) (front : List ℕ) (low high : ℕ) (w : List ℕ) → high < 2 ^ 64 →
+    ((line : List ℕ) → after_line p line ≡ option_map f (number_after front low high line)) → NextLine p w ⊎ (NextLine p w → ⊥)
 next_number p f front low high w small after = elim (some_number front low high w) [
   | inl s ↦
       let b = s.1 in
       let number = number_read front low high s.0 (omega (arith, b, small)) s.2.0 (omega (arith, b)) in
-      inl (record { more = s.2.1.0; next = f s.0; goes = after (w ++ s.2.1.0) ∙ ap (λ (l : List ℕ). option_map f (number_after front low high l)) (sym s.2.1.1) ∙ ap (option_map f) number })
+      inl (record {
+        more = s.2.1.0;
+        next = f s.0;
+        goes = after (w ++ s.2.1.0) ∙
+            ap (λ (l : List ℕ). option_map f (number_after front low high l)) (sym s.2.1.1) ∙ ap (option_map f) number;
+      })
   | inr none ↦ inr (λ n.
       let found = none_maps f (number_after front low high (w ++ n.more)) n.next (sym (after (w ++ n.more)) ∙ n.goes) in
       let read = number_back front low high (w ++ n.more) found.0 found.1 in
@@ -120,7 +136,9 @@ IsSmall Count = Unit {0}
 IsSmall (Times left last) = last ≤ 1000000000
 IsSmall Over = Unit {0}
 
-times_goes : (left last : ℕ) (times line : List ℕ) → (left ≡ 0 → ⊥) → after_line (part (Times left last) times) line ≡ option_map (λ t. part (Times (left - 1) t) (times ++ t ∷ [])) (number_after (codes "a ") last 1000000000 line)
+times_goes : (left last : ℕ) (times line : List ℕ) → (left ≡ 0 → ⊥) →
+    after_line (part (Times left last) times) line ≡ option_map (λ t. part (Times (left - 1) t) (times ++ t ∷ []))
+    (number_after (codes "a ") last 1000000000 line)
 times_goes left last times line some = rw (ne_eqb left 0 some) refl
 
 end_goes : (last : ℕ) (times line : List ℕ) → after_line (part (Times 0 last) times) line ≡ cond (is_text line (codes "end")) (Some (part Over times)) None
@@ -131,7 +149,8 @@ next_line_or_not Head times w = next_text (part Head times) (part Count times) (
 next_line_or_not Count times w = next_number (part Count times) (λ n. part (Times n 0) times) (codes "arrivals ") 1 10000 w (omega arith) (λ line. refl)
 next_line_or_not (Times zero last) times w = next_text (part (Times 0 last) times) (part Over times) (codes "end") w (end_goes last times)
 next_line_or_not (Times (suc left) last) times w =
-    next_number (part (Times (suc left) last) times) (λ t. part (Times (suc left - 1) t) (times ++ t ∷ [])) (codes "a ") last 1000000000 w (omega arith) (λ line. times_goes (suc left) last times line (λ e. omega arith))
+    next_number (part (Times (suc left) last) times) (λ t. part (Times (suc left - 1) t) (times ++ t ∷ []))
+    (codes "a ") last 1000000000 w (omega arith) (λ line. times_goes (suc left) last times line (λ e. omega arith))
 next_line_or_not Over times w = inr (λ n. let some = n.goes in absurd (cc))
 
 -- what stands behind the lines read
@@ -177,10 +196,12 @@ times_rest last before (t ∷ times) r =
       line = codes "a " ++ decimal t;
       one = number_lacks (codes "a ") t (lacks_from_test 10 (codes "a ") refl) (omega (arith, is.high));
       next = part (Times (length (t ∷ times) - 1) t) (before ++ t ∷ []);
-      goes = times_goes (length (t ∷ times)) last before (codes "a " ++ decimal t) (λ e. omega arith) ∙ ap (option_map (λ u. part (Times (length (t ∷ times) - 1) u) (before ++ u ∷ []))) number;
+      goes = times_goes (length (t ∷ times)) last before (codes "a " ++ decimal t) (λ e. omega arith) ∙
+          ap (option_map (λ u. part (Times (length (t ∷ times) - 1) u) (before ++ u ∷ []))) number;
       more = times;
       rest = (omega arith, is.rest);
-      text = append_assoc (arrival_line t) (flat_map arrival_line times) (codes "end\n") ∙ number_ends (codes "a ") t (flat_map arrival_line times ++ codes "end\n");
+      text = append_assoc (arrival_line t) (flat_map arrival_line times) (codes "end\n") ∙
+          number_ends (codes "a ") t (flat_map arrival_line times ++ codes "end\n");
       same = append_assoc before (t ∷ []) times;
     }
 
@@ -228,7 +249,9 @@ pub record Leads (s : Stage) (before line : List ℕ) (next : Part) : Type 0 whe
   pub small : IsSmall next.stage
   pub back : (more : List ℕ) → Rest next.stage more → Back s before line next more
 
-text_leads : (s : Stage) (before line text : List ℕ) (q next : Part) → after_line (part s before) line ≡ cond (is_text line text) (Some q) None → after_line (part s before) line ≡ Some next → Leads s before text q → Leads s before line next
+text_leads : (s : Stage) (before line text : List ℕ) (q next : Part) →
+    after_line (part s before) line ≡ cond (is_text line text) (Some q) None → after_line (part s before) line ≡ Some next →
+    Leads s before text q → Leads s before line next
 text_leads s before line text q next after e l = elim (cases_Bool (is_text line text)) [
   | inr h ↦ absurd (let none : after_line (part s before) line ≡ None = after ∙ rw h refl in cc)
   | inl h ↦
@@ -256,12 +279,20 @@ count_leads before line n read = record {
 first_time : (last t : ℕ) (times : List ℕ) → last ≤ t → t ≤ 1000000000 → are_times t times ≡ true → are_times last (t ∷ times) ≡ true
 first_time last t times low high h = and_from _ _ (and_from _ _ (le-leb last t low) (le-leb t 1000000000 high)) h
 
-time_leads : (left last : ℕ) (before line : List ℕ) (t : ℕ) → (left ≡ 0 → ⊥) → IsRead (codes "a ") last 1000000000 line t → Leads (Times left last) before line (part (Times (left - 1) t) (before ++ t ∷ []))
+time_leads : (left last : ℕ) (before line : List ℕ) (t : ℕ) → (left ≡ 0 → ⊥) → IsRead (codes "a ") last 1000000000 line t →
+    Leads (Times left last) before line (part (Times (left - 1) t) (before ++ t ∷ []))
 time_leads left last before line t some read = record {
   small = read.below;
   back = λ more r. record {
     times = t ∷ more;
-    rest = ((let count = r.0 in elim (cases_lt 0 left) [ inl c ↦ omega (arith, count, c) | inr c ↦ absurd (some (omega (arith, c))) ]), first_time last t more read.above read.below r.1);
+    rest = (
+      (let count = r.0 in elim (cases_lt 0 left) [
+        | inl c ↦ omega (arith, count, c)
+        | inr c ↦
+            absurd (some (omega (arith, c)))
+      ]),
+      first_time last t more read.above read.below r.1,
+    );
     text = append_assoc (arrival_line t) (flat_map arrival_line more) (codes "end\n")
         ∙ number_ends (codes "a ") t (flat_map arrival_line more ++ codes "end\n")
         ∙ ap (λ (l : List ℕ). l ++ 10 ∷ (flat_map arrival_line more ++ codes "end\n")) (sym read.is);
@@ -284,10 +315,13 @@ leads Head before line next e =
 leads Count before line next e =
     let found = none_maps (λ n. part (Times n 0) before) (number_after (codes "arrivals ") 1 10000 line) next e in
     subst (Leads Count before line) found.2 (count_leads before line found.0 (number_back (codes "arrivals ") 1 10000 line found.0 found.1))
-leads (Times zero last) before line next e = text_leads (Times 0 last) before line (codes "end") (part Over before) next (end_goes last before line) e (end_rest last before)
+leads (Times zero last) before line next e = text_leads (Times 0 last) before line (codes "end") (part Over before) next
+    (end_goes last before line) e (end_rest last before)
 leads (Times (suc left) last) before line next e =
-    let found = none_maps (λ t. part (Times (suc left - 1) t) (before ++ t ∷ [])) (number_after (codes "a ") last 1000000000 line) next (sym (times_goes (suc left) last before line (λ e. omega arith)) ∙ e) in
-    subst (Leads (Times (suc left) last) before line) found.2 (time_leads (suc left) last before line found.0 (λ e. omega arith) (number_back (codes "a ") last 1000000000 line found.0 found.1))
+    let found = none_maps (λ t. part (Times (suc left - 1) t) (before ++ t ∷ []))
+    (number_after (codes "a ") last 1000000000 line) next (sym (times_goes (suc left) last before line (λ e. omega arith)) ∙ e) in
+    subst (Leads (Times (suc left) last) before line) found.2
+    (time_leads (suc left) last before line found.0 (λ e. omega arith) (number_back (codes "a ") last 1000000000 line found.0 found.1))
 leads Over before line next e = absurd (cc)
 
 -- something may follow

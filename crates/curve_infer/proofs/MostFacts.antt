@@ -27,7 +27,8 @@ module _ (times : List ℕ) (ok : IsTrace times) where
   unfolding most_of
   most_at d =
       let e : suc (last_of 0 times) ≡ last_of 0 times + 1 = omega arith in
-      subst (λ n. IsAt (λ t. times_in times t (t + d)) (max_below (λ t. times_in times t (t + d)) n)) e (max_at (λ t. times_in times t (t + d)) (last_of 0 times))
+      subst (λ n. IsAt (λ t. times_in times t (t + d)) (max_below (λ t. times_in times t (t + d)) n)) e
+      (max_at (λ t. times_in times t (t + d)) (last_of 0 times))
 
   -- after the last time there is none
   none_late : (t d : ℕ) → last_of 0 times < t → times_in times t (t + d) ≡ 0
@@ -96,7 +97,8 @@ module _ (times : List ℕ) (ok : IsTrace times) where
       let split = times_split times 0 t (t + d) (omega arith) (omega arith) in
       let few = times_few times 0 (t + d) in
       let i = times_in times 0 t in
-      let high = counts_early times 0 (i + (n - 1)) (t + d) ok.fit (omega (arith, at.is, split, few, some, enough)) (omega (arith, at.is, split, some, enough)) in
+      let high = counts_early times 0 (i + (n - 1)) (t + d) ok.fit (omega (arith, at.is, split, few, some, enough))
+      (omega (arith, at.is, split, some, enough)) in
       let low : t ≤ get_or times i 0 = elim (cases_lt (get_or times i 0) t) [
         | inr c ↦ c
         | inl c ↦ absurd (omega (arith, early_counts times 0 i t ok.fit (omega (arith, at.is, split, few, some, enough)) c))
@@ -124,7 +126,12 @@ module _ (times : List ℕ) (ok : IsTrace times) where
   length_is n some few = λ d. (
     (λ enough.
         let row = row_of n d some enough in
-        omega (arith, min_low (gap_of times (n - 1)) (length times - (n - 1) - 1) row.first (omega (arith, row.within, some)), row.short, times_order times 0 row.first (row.first + (n - 1)) ok.fit (omega arith) (omega (arith, row.within, some)))),
+        omega (
+          arith,
+          min_low (gap_of times (n - 1)) (length times - (n - 1) - 1) row.first (omega (arith, row.within, some)),
+          row.short,
+          times_order times 0 row.first (row.first + (n - 1)) ok.fit (omega arith) (omega (arith, row.within, some)),
+        )),
     (λ long.
         let at = min_at (gap_of times (n - 1)) (length times - (n - 1) - 1) in
         row_most n d at.place some (omega (arith, at.within, some, few)) (omega (arith, at.is, long))),

@@ -1,5 +1,6 @@
 -- Any bytes have one reading.
-use Rattle.std.proofs.Common.{◌≡◌, ℕ, ◌+◌, ◌<◌, ◌≤◌, ◌⊎◌, ◌==◌, true, List, [], ◌∷◌, ◌++◌, length, take, drop, refl, sym, ap, subst, ◌∙◌, arith, Option, Some, None, Result, Ok, Err, inl, inr, append_assoc, append-nil, length-append}
+use Rattle.std.proofs.Common.{◌≡◌, ℕ, ◌+◌, ◌<◌, ◌≤◌, ◌⊎◌, ◌==◌, true, List, [], ◌∷◌, ◌++◌, length, take, drop, refl, sym, ap, subst, ◌∙◌, arith}
+use Rattle.std.proofs.Common.{Option, Some, None, Result, Ok, Err, inl, inr, append_assoc, append-nil, length-append}
 use Rattle.std.specs.Option.{option_map_or}
 use Rattle.std.proofs.lemmas.Bool.{cases_Bool, cases_lt, eqb-true}
 use Rattle.std.proofs.lemmas.List.{take-append-drop, length-take-le}
@@ -59,7 +60,8 @@ behind p line t times one r e = elim (over_or_not p.stage) [
 ]
 
 -- the whole of what follows is left at the end of the bytes
-complete_end : (p : Part) (n : ℕ) (acc times : List ℕ) → Lacks 10 acc → Rest p.stage times → rest_text p.stage times ≡ acc → read_on p n acc [] ≡ Ok (p.times ++ times)
+complete_end : (p : Part) (n : ℕ) (acc times : List ℕ) → Lacks 10 acc → Rest p.stage times → rest_text p.stage times ≡ acc →
+    read_on p n acc [] ≡ Ok (p.times ++ times)
 complete_end p n acc times one r e = elim (over_or_not p.stage) [
   | inl over ↦
       (let none : times ≡ [] = subst (λ (s : Stage). Rest s times) over r in
@@ -73,7 +75,8 @@ complete_end p n acc times one r e = elim (over_or_not p.stage) [
 ]
 
 -- what follows is read
-pub complete : (bytes : List ℕ) (p : Part) (n : ℕ) (acc times : List ℕ) → Lacks 10 acc → Rest p.stage times → rest_text p.stage times ≡ acc ++ bytes → read_on p n acc bytes ≡ Ok (p.times ++ times)
+pub complete : (bytes : List ℕ) (p : Part) (n : ℕ) (acc times : List ℕ) → Lacks 10 acc → Rest p.stage times →
+    rest_text p.stage times ≡ acc ++ bytes → read_on p n acc bytes ≡ Ok (p.times ++ times)
 complete [] p n acc times one r e = complete_end p n acc times one r (e ∙ append-nil acc)
 complete (x ∷ bytes) p n acc times one r e = elim (cases_Bool (x == 10)) [
   | inl h ↦
@@ -144,7 +147,8 @@ pub record Refusal (p : Part) (n : ℕ) (bytes : List ℕ) (m : ℕ) : Type 0 wh
 lacks_some : (k : ℕ) (w : List ℕ) → Lacks 10 w → Lacks 10 (take k w)
 lacks_some k w h = lacks_front 10 (take k w) (drop k w) (subst (Lacks 10) (sym (take-append-drop k w)) h)
 
-within_line : (p : Part) (acc : List ℕ) (k : ℕ) (longer u : List ℕ) → ((m : ℕ) → k < m → m ≤ length acc → Begun p (take m acc) → ⊥) → acc ≡ longer ++ u → Begun p longer → length longer ≤ k
+within_line : (p : Part) (acc : List ℕ) (k : ℕ) (longer u : List ℕ) →
+    ((m : ℕ) → k < m → m ≤ length acc → Begun p (take m acc) → ⊥) → acc ≡ longer ++ u → Begun p longer → length longer ≤ k
 within_line p acc k longer u last e b = elim (cases_lt k (length longer)) [
   | inl less ↦
       (let sum : length acc ≡ length longer + length u = ap length e ∙ length-append longer u in
@@ -154,15 +158,18 @@ within_line p acc k longer u last e b = elim (cases_lt k (length longer)) [
 ]
 
 beyond_line : (p : Part) (acc t : List ℕ) (k : ℕ) (longer more u : List ℕ) → ((m : ℕ) → k < m → m ≤ length acc → Begun p (take m acc) → ⊥)
-    → ((u : List ℕ) (y : ℕ) (more : List ℕ) → t ≡ (y ∷ u) ++ more → Begun p (acc ++ y ∷ u) → ⊥) → longer ≡ acc ++ u → t ≡ u ++ more → Begun p longer → length longer ≤ k
+    → ((u : List ℕ) (y : ℕ) (more : List ℕ) → t ≡ (y ∷ u) ++ more → Begun p (acc ++ y ∷ u) → ⊥) → longer ≡ acc ++ u →
+    t ≡ u ++ more → Begun p longer → length longer ≤ k
 beyond_line p acc t k longer more [] last stuck e f b = within_line p acc k longer [] last (sym (append-nil acc) ∙ sym e ∙ sym (append-nil longer)) b
 beyond_line p acc t k longer more (y ∷ u) last stuck e f b = absurd (stuck u y more f (subst (Begun p) e b))
 
 -- no line is read any more behind acc
-refuse_here : (p : Part) (n : ℕ) (acc t : List ℕ) → IsSmall p.stage → Lacks 10 acc → ((u : List ℕ) (y : ℕ) (more : List ℕ) → t ≡ (y ∷ u) ++ more → Begun p (acc ++ y ∷ u) → ⊥) → Refusal p n (acc ++ t) n
+refuse_here : (p : Part) (n : ℕ) (acc t : List ℕ) → IsSmall p.stage → Lacks 10 acc →
+    ((u : List ℕ) (y : ℕ) (more : List ℕ) → t ≡ (y ∷ u) ++ more → Begun p (acc ++ y ∷ u) → ⊥) → Refusal p n (acc ++ t) n
 refuse_here p n acc t small one stuck =
     let Front : ℕ → Type 0 = λ k. Begun p (take k acc) in
-    let last = last_up_to Front (λ k. Begun p (take k acc) → ⊥) (λ k. begun_or_not p (take k acc) small (lacks_some k acc one)) (begun_empty p small) (length acc) in
+    let last = last_up_to Front (λ k. Begun p (take k acc) → ⊥) (λ k. begun_or_not p (take k acc) small (lacks_some k acc one))
+    (begun_empty p small) (length acc) in
     let k = last.0 in
     let size : length (take k acc) ≡ k = length-take-le k acc last.1 in
     record {
@@ -201,7 +208,13 @@ refuse_before p q n acc t m one e r = record {
     | inl f ↦ omega (arith, ap length f.1, length-append longer f.0, length-append acc (10 ∷ []), length-append acc (10 ∷ r.front))
     | inr f ↦
         (let parts : longer ≡ acc ++ 10 ∷ f.0 = f.1 ∙ append_assoc acc (10 ∷ []) f.0 in
-        omega (arith, ap length parts, length-append acc (10 ∷ f.0), length-append acc (10 ∷ r.front), r.longest f.0 more f.2 (found_behind p q acc f.0 one e (subst (Begun p) parts b))))
+        omega (
+          arith,
+          ap length parts,
+          length-append acc (10 ∷ f.0),
+          length-append acc (10 ∷ r.front),
+          r.longest f.0 more f.2 (found_behind p q acc f.0 one e (subst (Begun p) parts b)),
+        ))
   ];
   line = omega (arith, r.line, newlines-line acc r.front one);
 }
@@ -219,7 +232,8 @@ Answers p n bytes (Ok times) = Found p bytes times
 Answers p n bytes (Err (Line m)) = Refusal p n bytes m
 Answers p n bytes (Err Memory) = ⊥
 
-answers_before : (p q : Part) (n : ℕ) (acc t : List ℕ) (r : Result (List ℕ) TextRefusal) → Lacks 10 acc → after_line p acc ≡ Some q → Answers q (n + 1) t r → Answers p n (acc ++ 10 ∷ t) r
+answers_before : (p q : Part) (n : ℕ) (acc t : List ℕ) (r : Result (List ℕ) TextRefusal) → Lacks 10 acc →
+    after_line p acc ≡ Some q → Answers q (n + 1) t r → Answers p n (acc ++ 10 ∷ t) r
 answers_before p q n acc t (Ok times) one e f =
     let l = leads p.stage p.times acc q e in
     let c = l.back f.more f.rest in
@@ -248,7 +262,8 @@ found_over p acc over none = record {
 }
 
 -- the line at acc may not come
-stuck_line : (p : Part) (acc bytes : List ℕ) → Lacks 10 acc → after_line p acc ≡ None → (u : List ℕ) (y : ℕ) (more : List ℕ) → 10 ∷ bytes ≡ (y ∷ u) ++ more → Begun p (acc ++ y ∷ u) → ⊥
+stuck_line : (p : Part) (acc bytes : List ℕ) → Lacks 10 acc → after_line p acc ≡ None → (u : List ℕ) (y : ℕ) (more : List ℕ) →
+    10 ∷ bytes ≡ (y ∷ u) ++ more → Begun p (acc ++ y ∷ u) → ⊥
 stuck_line p acc bytes one none u y more e b =
     let newline : y ≡ 10 = let turned : 10 ≡ y = cc in sym turned in
     let text = b.text ∙ append_assoc acc (y ∷ u) b.more ∙ ap (λ (z : ℕ). acc ++ z ∷ (u ++ b.more)) newline in
@@ -256,10 +271,12 @@ stuck_line p acc bytes one none u y more e b =
     let some : after_line p acc ≡ Some h.next = h.goes in
     absurd (cc)
 
-at_newline : (bytes : List ℕ) (p : Part) (n : ℕ) (acc : List ℕ) (o : Option Part) → IsSmall p.stage → Lacks 10 acc → after_line p acc ≡ o → ((q : Part) → IsSmall q.stage → Answers q (n + 1) bytes (read_on q (n + 1) [] bytes))
+at_newline : (bytes : List ℕ) (p : Part) (n : ℕ) (acc : List ℕ) (o : Option Part) → IsSmall p.stage → Lacks 10 acc →
+    after_line p acc ≡ o → ((q : Part) → IsSmall q.stage → Answers q (n + 1) bytes (read_on q (n + 1) [] bytes))
     → Answers p n (acc ++ 10 ∷ bytes) (option_map_or (λ q. read_on q (n + 1) [] bytes) o (Err (Line n)))
 at_newline bytes p n acc None small one e next = refuse_here p n acc (10 ∷ bytes) small one (stuck_line p acc bytes one e)
-at_newline bytes p n acc (Some q) small one e next = answers_before p q n acc bytes (read_on q (n + 1) [] bytes) one e (next q (leads p.stage p.times acc q e).small)
+at_newline bytes p n acc (Some q) small one e next = answers_before p q n acc bytes (read_on q (n + 1) [] bytes) one e
+    (next q (leads p.stage p.times acc q e).small)
 
 pub answers : (bytes : List ℕ) (p : Part) (n : ℕ) (acc : List ℕ) → IsSmall p.stage → Lacks 10 acc → Answers p n (acc ++ bytes) (read_on p n acc bytes)
 answers [] p n acc small one = elim (cases_Bool (is_whole p.stage acc)) [
@@ -268,8 +285,11 @@ answers [] p n acc small one = elim (cases_Bool (is_whole p.stage acc)) [
 ]
 answers (x ∷ bytes) p n acc small one = elim (cases_Bool (x == 10)) [
   | inl h ↦ (let newline : 10 ≡ x = sym (eqb-true x 10 h) in
-      rw h (subst (λ (y : ℕ). Answers p n (acc ++ y ∷ bytes) (option_map_or (λ q. read_on q (n + 1) [] bytes) (after_line p acc) (Err (Line n)))) newline (at_newline bytes p n acc (after_line p acc) small one refl (λ q is. answers bytes q (n + 1) [] is tt))))
-  | inr h ↦ rw h (subst (λ (l : List ℕ). Answers p n l (read_on p n (acc ++ x ∷ []) bytes)) (append_assoc acc (x ∷ []) bytes) (answers bytes p n (acc ++ x ∷ []) small (lacks_append 10 acc (x ∷ []) one (h, tt))))
+      rw h (subst (λ (y : ℕ). Answers p n (acc ++ y ∷ bytes)
+      (option_map_or (λ q. read_on q (n + 1) [] bytes) (after_line p acc) (Err (Line n)))) newline
+      (at_newline bytes p n acc (after_line p acc) small one refl (λ q is. answers bytes q (n + 1) [] is tt))))
+  | inr h ↦ rw h (subst (λ (l : List ℕ). Answers p n l (read_on p n (acc ++ x ∷ []) bytes)) (append_assoc acc (x ∷ []) bytes)
+      (answers bytes p n (acc ++ x ∷ []) small (lacks_append 10 acc (x ∷ []) one (h, tt))))
 ]
 
 -- a trace's text is read as this trace
@@ -283,7 +303,8 @@ begun_from_begins b t = record { times = t.value; more = t.more; rest = t.parses
 begins_from_begun : (b : List ℕ) → Begun nothing_read b → BeginsText trace_format b
 begins_from_begun b t = record { value = t.times; more = t.more; parses = record { within = t.rest; text = sym t.text } }
 
-reading_from_answers : (b : List ℕ) (r : Result (List ℕ) TextRefusal) → ((times : List ℕ) → Parses trace_format b times → r ≡ Ok times) → Answers nothing_read 1 b r → IsReading trace_format b r
+reading_from_answers : (b : List ℕ) (r : Result (List ℕ) TextRefusal) →
+    ((times : List ℕ) → Parses trace_format b times → r ≡ Ok times) → Answers nothing_read 1 b r → IsReading trace_format b r
 reading_from_answers b (Ok times) all f =
     let found : Parses trace_format b f.more = record { within = f.rest; text = f.text } in
     subst (Parses trace_format b) (sym f.is) found

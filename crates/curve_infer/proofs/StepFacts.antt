@@ -1,4 +1,5 @@
-use Rattle.std.proofs.Common.{◌≡◌, ℕ, zero, suc, ◌+◌, ◌<◌, ◌≤◌, Bool, true, cond, leb, List, [], ◌∷◌, ◌++◌, length, refl, sym, ◌∙◌, ap, arith, inl, inr, add-zero}
+use Rattle.std.proofs.Common.{◌≡◌, ℕ, zero, suc, ◌+◌, ◌<◌, ◌≤◌, Bool, true, cond, leb, List, [], ◌∷◌, ◌++◌, length, refl, sym, ◌∙◌, ap, arith, inl}
+use Rattle.std.proofs.Common.{inr, add-zero}
 use Rattle.std.specs.List.{list_all}
 use Rattle.std.proofs.lemmas.Bool.{cases_lt, and_parts, and_from, eq-eqb, lt-ltb, le-ltb, le-leb, lt-leb}
 use Rattle.std.proofs.lemmas.Bool.Decides.{nat_tests}
@@ -80,7 +81,8 @@ abbrev pub top_value : ℕ → List Step → ℕ
 top_value before [] = before
 top_value before (s ∷ steps) = top_value s.value steps
 
-rise_append : (steps : List Step) (s : Step) (time value : ℕ) → RiseFrom time value steps → last_time time steps < s.time → top_value value steps < s.value → RiseFrom time value (steps ++ (s ∷ []))
+rise_append : (steps : List Step) (s : Step) (time value : ℕ) → RiseFrom time value steps → last_time time steps < s.time →
+    top_value value steps < s.value → RiseFrom time value (steps ++ (s ∷ []))
 rise_append [] s time value rise later higher = (later, higher, tt)
 rise_append (r ∷ steps) s time value rise later higher = (rise.0, rise.1, rise_append steps s r.time r.value rise.2 later higher)
 
@@ -128,7 +130,14 @@ steps_are f rises (suc n) h few =
       })
       | inr c ↦
           let same : f n ≡ f (suc n) = omega (arith, grows, c) in
-          rw (none_here f n c) (record { few = omega (arith, before.few, same); fit = before.fit; rising = before.rising; last = omega (arith, before.last); top = before.top ∙ same })
+          rw (none_here f n c) (record {
+            few = omega (arith, before.few, same);
+            fit = before.fit;
+            rising = before.rising;
+            last =
+                omega (arith, before.last);
+            top = before.top ∙ same;
+          })
     ]
 
 pub steps_start : (f : ℕ → ℕ) → IsRising f → 1 ≤ f 1 → (n : ℕ) → StartsAtOne (steps_to f (suc n))
@@ -141,7 +150,8 @@ steps_start f rises some (suc n) = elim (cases_lt (f (suc n)) (f (suc (suc n))))
 ]
 
 -- where the value n + 1 is reached at m + 1, and stays until m + k + 1, there is one step
-pub steps_once : (f : ℕ → ℕ) → IsRising f → (m k v : ℕ) → f m < v → v ≤ f (m + 1) → f (m + 1 + k) ≤ v → steps_to f (m + 1 + k) ≡ steps_to f m ++ (record { time = m + 1; value = v } ∷ [])
+pub steps_once : (f : ℕ → ℕ) → IsRising f → (m k v : ℕ) → f m < v → v ≤ f (m + 1) → f (m + 1 + k) ≤ v →
+    steps_to f (m + 1 + k) ≡ steps_to f m ++ (record { time = m + 1; value = v } ∷ [])
 steps_once f rises m k v low there high =
     let stays = rises.mono (m + 1) (m + 1 + k) (omega arith) in
     let at : suc m ≡ m + 1 = omega arith in

@@ -1,4 +1,5 @@
-use Rattle.std.proofs.Common.{◌≡◌, ℕ, zero, suc, ◌+◌, ◌-◌, ◌*◌, ◌<◌, ◌≤◌, ◌≢◌, ◌⊎◌, ◌==◌, ◌&&◌, min, Bool, true, false, cond, not, length, refl, sym, ◌∙◌, ap, subst, inl, inr, arith, eq-eqb}
+use Rattle.std.proofs.Common.{◌≡◌, ℕ, zero, suc, ◌+◌, ◌-◌, ◌*◌, ◌<◌, ◌≤◌, ◌≢◌, ◌⊎◌, ◌==◌, ◌&&◌, min, Bool, true, false, cond, not, length, refl, sym}
+use Rattle.std.proofs.Common.{◌∙◌, ap, subst, inl, inr, arith, eq-eqb}
 use Rattle.std.specs.Prelude.{pos, negsuc}
 use Rattle.std.proofs.lemmas.Bool.{cases_lt, cases_eq, cases_Bool, and_from, and_parts, ne_eqb, eqb-false, not-true}
 use Rattle.std.proofs.lemmas.Int.{ints}
@@ -68,23 +69,29 @@ swapped false w x = omega arith
 
 -- a term put in
 sum_join : (w : ℕ) (f : ℕ → ℕ) (n i : ℕ) → i < n → sum_below (λ o. cond (o == i) 0 (f o)) n + w ≤ sum_below (λ o. cond (o == i) w (f o)) n
-sum_join w f n i h = sum_gap _ _ n i w h (λ o b. swapped (o == i) w (f o)) (omega (arith, ap (λ (b : Bool). cond b 0 (f i)) (eq-eqb i i refl), ap (λ (b : Bool). cond b w (f i)) (eq-eqb i i refl)))
+sum_join w f n i h = sum_gap _ _ n i w h (λ o b. swapped (o == i) w (f o))
+    (omega (arith, ap (λ (b : Bool). cond b 0 (f i)) (eq-eqb i i refl), ap (λ (b : Bool). cond b w (f i)) (eq-eqb i i refl)))
 
 pub others_grow : (p : PolicyMeaning) (sheet : SheetParts) → IsValidSheet sheet → (i a x y : ℕ) → x ≤ y → others_of p sheet i a x ≤ others_of p sheet i a y
 unfolding others_of
 others_grow p sheet ok i a x y h =
     sum_le (other_of p sheet i a x) (other_of p sheet i a y) (length sheet.tasks)
-    (λ o b. unless_le (o == i) _ _ (mul-le-mul_left (task_at sheet o).cost (count_grows (task_at sheet o).curve (ok.each o b).curve (task_at sheet o).jitter (p.cap sheet i o a) x y h)))
+    (λ o b. unless_le (o == i) _ _
+    (mul-le-mul_left (task_at sheet o).cost (count_grows (task_at sheet o).curve (ok.each o b).curve (task_at sheet o).jitter (p.cap sheet i o a) x y h)))
 
-pub need_grows : (p : PolicyMeaning) (m : CutMeaning) (sheet : SheetParts) → IsValidSheet sheet → (i a x y : ℕ) → x ≤ y → need_of p m sheet i a x ≤ need_of p m sheet i a y
+pub need_grows : (p : PolicyMeaning) (m : CutMeaning) (sheet : SheetParts) → IsValidSheet sheet → (i a x y : ℕ) → x ≤ y →
+    need_of p m sheet i a x ≤ need_of p m sheet i a y
 unfolding need_of
 need_grows p m sheet ok i a x y h = omega (arith, others_grow p sheet ok i a x y h)
 
-pub window_need_grows : (p : PolicyMeaning) (m : CutMeaning) (sheet : SheetParts) → IsValidSheet sheet → (i k l : ℕ) → k ≤ l → window_need_of p m sheet i k ≤ window_need_of p m sheet i l
+pub window_need_grows : (p : PolicyMeaning) (m : CutMeaning) (sheet : SheetParts) → IsValidSheet sheet → (i k l : ℕ) → k ≤ l →
+    window_need_of p m sheet i k ≤ window_need_of p m sheet i l
 unfolding window_need_of
 window_need_grows p m sheet ok i k l h =
     let parts = sum_le (class_part_of p sheet i k) (class_part_of p sheet i l) (length sheet.tasks)
-    (λ o b. cond_mono (p.class sheet i o) _ _ (mul-le-mul_left (task_at sheet o).cost (alpha_mono (task_at sheet o).curve (ok.each o b).curve (k + (task_at sheet o).jitter) (l + (task_at sheet o).jitter) (omega arith)))) in
+    (λ o b. cond_mono (p.class sheet i o) _ _
+    (mul-le-mul_left (task_at sheet o).cost
+    (alpha_mono (task_at sheet o).curve (ok.each o b).curve (k + (task_at sheet o).jitter) (l + (task_at sheet o).jitter) (omega arith)))) in
     omega (arith, parts)
 
 pub rising : (p : PolicyMeaning) (m : CutMeaning) (sheet : SheetParts) → IsValidSheet sheet → (i : ℕ) → IsRising p m sheet i
@@ -93,7 +100,8 @@ rising p m sheet ok i = record {
   window_need = λ k l h. window_need_grows p m sheet ok i k l h;
 }
 
-module _ (p : PolicyMeaning) (m : CutMeaning) (sheet : SheetParts) (ok : IsValidSheet sheet) (lawful : IsLawfulPolicy p sheet) (cut : (o : ℕ) → o < length sheet.tasks → IsLawfulCut m (task_at sheet o)) (i a l : ℕ) (in_range : i < length sheet.tasks) (below : a < l) where
+module _ (p : PolicyMeaning) (m : CutMeaning) (sheet : SheetParts) (ok : IsValidSheet sheet) (lawful : IsLawfulPolicy p sheet)
+    (cut : (o : ℕ) → o < length sheet.tasks → IsLawfulCut m (task_at sheet o)) (i a l : ℕ) (in_range : i < length sheet.tasks) (below : a < l) where
   -- the demand of task i itself, of task o within the cap, and of all jobs of task o
   abbrev own : ℕ
   own = (task_at sheet i).cost * alpha_of (task_at sheet i).curve (a + 1 + (task_at sheet i).jitter)
@@ -132,8 +140,18 @@ module _ (p : PolicyMeaning) (m : CutMeaning) (sheet : SheetParts) (ok : IsValid
     | inr ne ↦
         let task = task_at sheet o in
         elim (cases_Bool (p.class sheet i o)) [
-          | inl t ↦ omega (arith, other_part o b ne, class_part o t, mul-le-mul_left task.cost (count_whole task.curve (ok.each o b).curve task.jitter (p.cap sheet i o a) l))
-          | inr f ↦ omega (arith, other_part o b ne, ap (λ (c : Cap). task.cost * capped_count task.curve task.jitter c l) (lawful.cap_class i o a in_range b (λ e. ne (sym e)) f))
+          | inl t ↦ omega (
+            arith,
+            other_part o b ne,
+            class_part o t,
+            mul-le-mul_left task.cost (count_whole task.curve (ok.each o b).curve task.jitter (p.cap sheet i o a) l),
+          )
+          | inr f ↦ omega (
+            arith,
+            other_part o b ne,
+            ap (λ (c : Cap). task.cost * capped_count task.curve task.jitter c l)
+                (lawful.cap_class i o a in_range b (λ e. ne (sym e)) f),
+          )
         ]
   ]
 
@@ -161,7 +179,8 @@ module _ (p : PolicyMeaning) (m : CutMeaning) (sheet : SheetParts) (ok : IsValid
         mul-le-mul_left task.cost (alpha_one task.curve (ok.each o b).curve (l + task.jitter) (omega arith)),
       ))
 
-  block_fits : blocking_of p m sheet i a + sum_below part (length sheet.tasks) ≤ max_below (delay_of p m sheet i) (length sheet.tasks) + sum_below (class_part_of p sheet i l) (length sheet.tasks)
+  block_fits : blocking_of p m sheet i a + sum_below part (length sheet.tasks) ≤ max_below (delay_of p m sheet i)
+      (length sheet.tasks) + sum_below (class_part_of p sheet i l) (length sheet.tasks)
   unfolding blocking_of
   block_fits =
       let all = sum_le part (class_part_of p sheet i l) (length sheet.tasks) part_of_class in
@@ -174,7 +193,14 @@ module _ (p : PolicyMeaning) (m : CutMeaning) (sheet : SheetParts) (ok : IsValid
               let ne : o.0 ≢ i = eqb-false o.0 i (not-true (o.0 == i) q.0) in
               let top = ap (λ (b : Bool). cond b (m.longest (task_at sheet o.0) - 1) 0) t in
               elim (lawful.block_delays i o.0 a in_range o.1 (λ e. ne (sym e)) q.1) [
-                | inl d ↦ omega (arith, all, o.2, top, max_at_least (delay_of p m sheet i) (length sheet.tasks) o.0 o.1, ap (λ (b : Bool). cond b (m.longest (task_at sheet o.0) - 1) 0) (and_from (not (o.0 == i)) (p.may_delay sheet i o.0) q.0 d))
+                | inl d ↦ omega (
+                  arith,
+                  all,
+                  o.2,
+                  top,
+                  max_at_least (delay_of p m sheet i) (length sheet.tasks) o.0 o.1,
+                  ap (λ (b : Bool). cond b (m.longest (task_at sheet o.0) - 1) 0) (and_from (not (o.0 == i)) (p.may_delay sheet i o.0) q.0 d),
+                )
                 | inr none ↦ omega (arith, o.2, top, blocker_fits o.0 o.1 ne none)
               ]
         ]
@@ -182,4 +208,9 @@ module _ (p : PolicyMeaning) (m : CutMeaning) (sheet : SheetParts) (ok : IsValid
 
   pub fits : need_of p m sheet i a l + rest_of m sheet i ≤ window_need_of p m sheet i l
   unfolding need_of own_of window_need_of
-  fits = omega (arith, block_fits, parts_are, mul-le-mul_left (task_at sheet i).cost (alpha_one (task_at sheet i).curve (ok.each i in_range).curve (a + 1 + (task_at sheet i).jitter) (omega arith)))
+  fits = omega (
+    arith,
+    block_fits,
+    parts_are,
+    mul-le-mul_left (task_at sheet i).cost (alpha_one (task_at sheet i).curve (ok.each i in_range).curve (a + 1 + (task_at sheet i).jitter) (omega arith)),
+  )

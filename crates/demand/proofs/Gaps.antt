@@ -52,7 +52,8 @@ implied_le false c m h = omega arith
 implied_le true c m h = omega (arith, ap (λ (b : Bool). cond b m 0) (h refl))
 
 module _ (p : PolicyMeaning) (sheet : SheetParts) (i from at : ℕ) (same : IsSame p sheet i from at) where
-  own_same : i < length sheet.tasks → alpha_of (task_at sheet i).curve (from + 1 + (task_at sheet i).jitter) ≡ alpha_of (task_at sheet i).curve (at + 1 + (task_at sheet i).jitter)
+  own_same : i < length sheet.tasks →
+      alpha_of (task_at sheet i).curve (from + 1 + (task_at sheet i).jitter) ≡ alpha_of (task_at sheet i).curve (at + 1 + (task_at sheet i).jitter)
   own_same in_range = rw (eq-eqb i i refl) at (same i in_range)
 
   caps_same : (o : ℕ) → o < length sheet.tasks → o ≢ i →
@@ -60,7 +61,8 @@ module _ (p : PolicyMeaning) (sheet : SheetParts) (i from at : ℕ) (same : IsSa
   caps_same o in_range other = rw (ne_eqb o i other) at (same o in_range)
 
 -- the need at an offset that no number tells apart from an earlier one
-module _ (p : PolicyMeaning) (m : CutMeaning) (sheet : SheetParts) (ok : IsValidSheet sheet) (lawful : IsLawfulPolicy p sheet) (i : ℕ) (in_range : i < length sheet.tasks) where
+module _ (p : PolicyMeaning) (m : CutMeaning) (sheet : SheetParts) (ok : IsValidSheet sheet) (lawful : IsLawfulPolicy p sheet)
+    (i : ℕ) (in_range : i < length sheet.tasks) where
   pub block_less : (from a : ℕ) → from ≤ a → blocking_of p m sheet i a ≤ blocking_of p m sheet i from
   unfolding blocking_of
   block_less from a h = max_at_most _ _ (length sheet.tasks) (λ o b. implied_le _ _ _ (λ t.
@@ -74,7 +76,8 @@ module _ (p : PolicyMeaning) (m : CutMeaning) (sheet : SheetParts) (ok : IsValid
       let ne : o ≢ i = eqb-false o i f in
       let curve = (task_at sheet o).curve in
       let grows = lawful.cap_grows i o from a in_range b (λ e. ne (sym e)) h in
-      let stays = count_stays curve (ok.each o b).curve (task_at sheet o).jitter x (p.cap sheet i o from) (p.cap sheet i o a) grows (caps_same p sheet i from a same o b ne) in
+      let stays = count_stays curve (ok.each o b).curve (task_at sheet o).jitter x (p.cap sheet i o from)
+      (p.cap sheet i o a) grows (caps_same p sheet i from a same o b ne) in
       mul-le-mul_left (task_at sheet o).cost stays))
 
   pub need_less : (from a x : ℕ) → from ≤ a → IsSame p sheet i from a → need_of p m sheet i a x ≤ need_of p m sheet i from x

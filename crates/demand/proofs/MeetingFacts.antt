@@ -28,7 +28,8 @@ end_for before [] a = before
 end_for before (q ∷ qs) a = cond (nat_le q.0 a) (end_for q.1 qs a) before
 
 module _ (p : PolicyMeaning) (m : CutMeaning) (sbf : ℕ → ℕ) (sheet : SheetParts) (i : ℕ) where
-  pub reaches : (a x bound : ℕ) → CoversJitter sheet i bound → MeetsBound p m sbf sheet i a x bound → Reaches p m sbf sheet i a x (bound - (task_at sheet i).jitter)
+  pub reaches : (a x bound : ℕ) → CoversJitter sheet i bound → MeetsBound p m sbf sheet i a x bound →
+      Reaches p m sbf sheet i a x (bound - (task_at sheet i).jitter)
   reaches a x bound covers meets =
       let e : a + bound - (task_at sheet i).jitter ≡ a + (bound - (task_at sheet i).jitter) = omega arith in
       record { end = omega (arith, meets.end); enough = omega (arith, meets.enough, ap sbf e) }
@@ -39,14 +40,20 @@ module _ (p : PolicyMeaning) (m : CutMeaning) (sbf : ℕ → ℕ) (sheet : Sheet
       record { end = omega (arith, meets.end); enough = omega (arith, meets.enough, ap sbf e) }
 
   -- with a supply that never falls, and demand that does not rise along a gap
-  module _ (rises : (d : ℕ) → sbf d ≤ sbf (d + 1)) (falls : (from a to x : ℕ) → from ≤ a → a < to → IsSame p sheet i from (to - 1) → need_of p m sheet i a x ≤ need_of p m sheet i from x) (window bound : ℕ) where
-    across : (from a to x : ℕ) → from ≤ a → a < to → IsSame p sheet i from (to - 1) → MeetsEnd p m sbf sheet i from x → MeetsBound p m sbf sheet i from x bound → MeetsAt p m sbf sheet i bound a x
+  module _ (rises : (d : ℕ) → sbf d ≤ sbf (d + 1)) (falls : (from a to x : ℕ) → from ≤ a → a < to →
+      IsSame p sheet i from (to - 1) → need_of p m sheet i a x ≤ need_of p m sheet i from x) (window bound : ℕ) where
+    across : (from a to x : ℕ) → from ≤ a → a < to → IsSame p sheet i from (to - 1) → MeetsEnd p m sbf sheet i from x →
+        MeetsBound p m sbf sheet i from x bound → MeetsAt p m sbf sheet i bound a x
     across from a to x h l same end within =
         let less = falls from a to x h l same in
         let jitter = (task_at sheet i).jitter in
         record {
           end = record { enough = omega (arith, less, end.enough) };
-          within = record { end = omega (arith, within.end); enough = omega (arith, less, within.enough, rises_to sbf rises (from + bound - jitter) (a + bound - jitter) (omega arith)) };
+          within = record {
+            end = omega (arith, within.end);
+            enough =
+                omega (arith, less, within.enough, rises_to sbf rises (from + bound - jitter) (a + bound - jitter) (omega arith));
+          };
         }
 
     meets_from : (first : ℕ × ℕ) (points : List (ℕ × ℕ)) (a : ℕ) → MeetsEnd p m sbf sheet i first.0 first.1 → MeetsBound p m sbf sheet i first.0 first.1 bound →
@@ -62,6 +69,7 @@ module _ (p : PolicyMeaning) (m : CutMeaning) (sbf : ℕ → ℕ) (sheet : Sheet
         MeetsAt p m sbf sheet i bound a (end_for first.1 points a)
     end_serves first points a meet l = meets_from first points a meet.0.end meet.0.within meet.1 (omega (arith, meet.0.next)) l
 
-    pub every_offset : (points : List (ℕ × ℕ)) → 1 ≤ length points → PointsMeet p m sbf sheet i window bound None points → EveryOffset p m sbf sheet i window bound
+    pub every_offset : (points : List (ℕ × ℕ)) → 1 ≤ length points → PointsMeet p m sbf sheet i window bound None points →
+        EveryOffset p m sbf sheet i window bound
     every_offset [] some meet a l = absurd (omega arith)
     every_offset (first ∷ points) some meet a l = (end_for first.1 points a, end_serves first points a meet l)

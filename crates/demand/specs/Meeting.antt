@@ -61,4 +61,5 @@ pub record PointMeets (p : PolicyMeaning) (m : CutMeaning) (sbf : ℕ → ℕ) (
 -- K4 to K8 at the points (a, x) that follow the offset before, and K5 from the last of them to the window's end
 abbrev pub PointsMeet : PolicyMeaning → CutMeaning → (ℕ → ℕ) → SheetParts → ℕ → ℕ → ℕ → Option ℕ → List (ℕ × ℕ) → Type 0
 PointsMeet p m sbf sheet i window bound before [] = KeepsGap p sheet i before window
-PointsMeet p m sbf sheet i window bound before (q ∷ qs) = PointMeets p m sbf sheet i window bound before q.0 q.1 × PointsMeet p m sbf sheet i window bound (Some q.0) qs
+PointsMeet p m sbf sheet i window bound before (q ∷ qs) =
+    PointMeets p m sbf sheet i window bound before q.0 q.1 × PointsMeet p m sbf sheet i window bound (Some q.0) qs

@@ -1,5 +1,6 @@
 -- No response time of an exercise is above the greatest bound.
-use Rattle.std.proofs.Common.{◌≡◌, ℕ, zero, suc, ◌+◌, ◌<◌, ◌≤◌, Bool, true, false, not, cond, max, Option, Some, None, List, [], ◌∷◌, ◌++◌, length, get_or, refl, inl, inr, arith}
+use Rattle.std.proofs.Common.{◌≡◌, ℕ, zero, suc, ◌+◌, ◌<◌, ◌≤◌, Bool, true, false, not, cond, max, Option, Some, None, List, [], ◌∷◌, ◌++◌, length}
+use Rattle.std.proofs.Common.{get_or, refl, inl, inr, arith}
 use Rattle.std.proofs.lemmas.Bool.{cases_eq, cases_lt, eq-eqb, ne_eqb, le-leb}
 use Rattle.std.proofs.lemmas.List.Elements.{All-get_or}
 use Rattle.lists.specs.Sums.{max_below}
@@ -91,7 +92,8 @@ seen_most run limit (suc n) h =
       worst_most run n limit (length run.jobs) (h n (omega arith)),
     )
 
-module _ (seed tasks : ℕ) (law : PointsBound edf_meaning per_task_meaning (λ d. d)) (some : 1 ≤ tasks) (few : tasks ≤ 64) (holds : ExerciseHolds seed tasks) where
+module _ (seed tasks : ℕ) (law : PointsBound edf_meaning per_task_meaning (λ d. d)) (some : 1 ≤ tasks) (few : tasks ≤ 64)
+    (holds : ExerciseHolds seed tasks) where
   task_bounded : (o : ℕ) → o < tasks → IsBounded edf_meaning per_task_meaning (λ d. d) (generated_sheet seed tasks) o (entry_at holds.cert o).bound
   task_bounded o b =
       let sheet : SheetParts = generated_sheet seed tasks in
@@ -116,6 +118,7 @@ module _ (seed tasks : ℕ) (law : PointsBound edf_meaning per_task_meaning (λ 
       rw holds.best
       (seen_most run (greatest_by (λ e. e.bound) holds.cert.entries) tasks
       (λ o b k l e. (
-      let own : response_of run k ≤ (entry_at holds.cert o).bound = response_most run k (entry_at holds.cert o).bound (task_bounded o b run holds.complies k l e) in
+      let own : response_of run k ≤ (entry_at holds.cert o).bound =
+      response_most run k (entry_at holds.cert o).bound (task_bounded o b run holds.complies k l e) in
       omega (arith, task_below o b)
       )))

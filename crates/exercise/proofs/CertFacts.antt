@@ -85,7 +85,8 @@ entry_more seed n k here b before own =
 
 pub has_entries : (seed n k : ℕ) → 1 ≤ n → n ≤ 64 → k ≤ n → HasEntries seed n k
 has_entries seed n zero some few b = record { entries = []; listed = none_yet seed n; count = refl; few = omega arith }
-has_entries seed n (suc k) some few b = entry_more seed n k (omega arith) few (has_entries seed n k some few (omega arith)) (has_window seed n k (omega arith) few)
+has_entries seed n (suc k) some few b = entry_more seed n k (omega arith) few (has_entries seed n k some few (omega arith))
+    (has_window seed n k (omega arith) few)
 
 -- the best certificate
 pub record HasBest (seed n : ℕ) : Type 0 where

@@ -54,5 +54,6 @@ asks seed n o l some =
 
 -- what a task asks for in l ticks is at most its part of them, and one job
 pub asks_most : (seed n o l : ℕ) → 1 ≤ n → o < n →
-    (task_at (generated_sheet seed n) o).cost * alpha_of (task_at (generated_sheet seed n) o).curve (l + (task_at (generated_sheet seed n) o).jitter) ≤ l / (2 * n) + cost_of seed o
+    (task_at (generated_sheet seed n) o).cost * alpha_of (task_at (generated_sheet seed n) o).curve
+    (l + (task_at (generated_sheet seed n) o).jitter) ≤ l / (2 * n) + cost_of seed o
 asks_most seed n o l some b = rw (task_cost seed n o b, task_curve seed n o b, task_jitter seed n o b, add-zero) (asks seed n o l some)

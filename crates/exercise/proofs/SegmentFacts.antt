@@ -45,7 +45,8 @@ few_by turn cost j low h = elim (cases_eq turn 0) [
           let parts = and_parts (each_within j.segs (halves cost)) (sum j.segs == j.cost) (rw (ne_eqb turn 0 a, ne_eqb turn 1 b, eq-eqb turn 2 e) at h) in
           omega (arith, as_many j.segs (halves cost) parts.0, halves_few cost)
       | inr d ↦
-          let parts = and_parts (are_lengths_within ((cost + 1) / 2) j.segs) (sum j.segs == j.cost) (rw (ne_eqb turn 0 a, ne_eqb turn 1 b, ne_eqb turn 2 d) at h) in
+          let parts = and_parts (are_lengths_within ((cost + 1) / 2) j.segs) (sum j.segs == j.cost)
+          (rw (ne_eqb turn 0 a, ne_eqb turn 1 b, ne_eqb turn 2 d) at h) in
           omega (arith, positive_few ((cost + 1) / 2) j.segs parts.0, eqb-true (sum j.segs) j.cost parts.1)
     ]
   ]

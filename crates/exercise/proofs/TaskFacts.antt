@@ -27,7 +27,8 @@ printable = decimal_by_steps (λ n ds. list_all (is_between 33 126) ds ≡ true)
 name_fits : (i : ℕ) → i < 64 → is_name (116 ∷ decimal i) ≡ true
 name_fits i l =
     let short : length (decimal i) ≤ 2 = length-decimal-le 2 i (omega arith) (omega arith) (omega arith) in
-    and_from _ _ (between 1 32 (length (116 ∷ decimal i)) (omega arith) (omega arith)) (and_from _ _ (between 33 126 116 (omega arith) (omega arith)) (printable i (omega arith)))
+    and_from _ _ (between 1 32 (length (116 ∷ decimal i)) (omega arith) (omega arith))
+    (and_from _ _ (between 33 126 116 (omega arith) (omega arith)) (printable i (omega arith)))
 
 halves_fit : (cost : ℕ) → 1 ≤ cost → cost ≤ 1000000000 → (are_in_range 1000 (halves cost) ≡ true) × (sum (halves cost) ≡ cost)
 halves_fit cost l h = elim (cases_eq cost 1) [

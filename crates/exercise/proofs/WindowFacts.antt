@@ -73,7 +73,8 @@ pub has_window : (seed n i : ℕ) → i < n → n ≤ 64 → HasWindow seed n i
 has_window seed n i b few =
     let sheet : SheetParts = generated_sheet seed n in
     let l : ℕ = 2 * costs_of seed n in
-    let fits : IsWindow edf_meaning per_task_meaning (λ d. d) sheet i l = record { positive = omega (arith, costs_low seed n); enough = need_fits seed n i b } in
+    let fits : IsWindow edf_meaning per_task_meaning (λ d. d) sheet i l =
+    record { positive = omega (arith, costs_low seed n); enough = need_fits seed n i b } in
     let found = least_true (is_window edf_meaning per_task_meaning (λ d. d) sheet i) l (window_true edf_meaning per_task_meaning (λ d. d) sheet i l fits) in
     record {
       window = found.0;

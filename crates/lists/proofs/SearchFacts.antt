@@ -1,5 +1,6 @@
 -- What searches among numbers find.
-use Rattle.std.proofs.Common.{◌≡◌, ◌≢◌, ℕ, zero, suc, ◌<◌, ◌≤◌, ◌⊎◌, ◌&&◌, Bool, true, false, cond, Option, Some, None, refl, sym, ◌∙◌, ap, subst, inl, inr, arith}
+use Rattle.std.proofs.Common.{◌≡◌, ◌≢◌, ℕ, zero, suc, ◌<◌, ◌≤◌, ◌⊎◌, ◌&&◌, Bool, true, false, cond, Option, Some, None, refl, sym, ◌∙◌, ap, subst}
+use Rattle.std.proofs.Common.{inl, inr, arith}
 use Rattle.std.proofs.lemmas.Bool.{cases_Bool, cases_lt, and_parts, and_from, and_left, and_right}
 use Rattle.lists.specs.Firsts.{must, first_below}
 use Rattle.lists.specs.Searches.{OnlyFails, greatest_to, best_below}
@@ -260,7 +261,8 @@ best_first test before (suc n) j k chain self e h t = elim (best_cases test befo
         let at_n : n ≡ j = cc in
         elim (cases_lt k n) [
           | inr c ↦ let at_k : k ≡ n = omega arith in subst (λ w. before k w ≡ false) (at_k ∙ at_n) (self k)
-          | inl c ↦ subst (λ w. before k w ≡ false) at_n (chain n f.0 k (and_parts (test n) (before n f.0) a).1 (best_first test before n f.0 k chain self f.1.is c t))
+          | inl c ↦ subst (λ w. before k w ≡ false) at_n
+              (chain n f.0 k (and_parts (test n) (before n f.0) a).1 (best_first test before n f.0 k chain self f.1.is c t))
         ]
     | inr a ↦
         let z : best_below test before (suc n) ≡ Some f.0 = rw (f.1.is, a) refl in

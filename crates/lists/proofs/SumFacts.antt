@@ -1,4 +1,5 @@
-use Rattle.std.proofs.Common.{◌≡◌, ℕ, zero, suc, ◌+◌, ◌*◌, ◌<◌, ◌≤◌, ◌==◌, Bool, true, false, cond, List, length, get_or, take, count_by, refl, ap, inl, inr, arith, add-one}
+use Rattle.std.proofs.Common.{◌≡◌, ℕ, zero, suc, ◌+◌, ◌*◌, ◌<◌, ◌≤◌, ◌==◌, Bool, true, false, cond, List, length, get_or, take, count_by, refl, ap}
+use Rattle.std.proofs.Common.{inl, inr, arith, add-one}
 use Rattle.std.proofs.lemmas.Bool.{cases_lt, ne_eqb}
 use Rattle.std.proofs.lemmas.List.Sums.{count_by_more_yes, count_by_more_no}
 use Rattle.lists.specs.Sums.{sum_below, max_below, min_to}
@@ -67,11 +68,13 @@ pub max_at_most : (f g : ℕ → ℕ) (n : ℕ) → ((o : ℕ) → o < n → f o
 max_at_most f g zero h = omega arith
 max_at_most f g (suc n) h = omega (arith, max_at_most f g n (λ o b. h o (omega arith)), h n (omega arith))
 
-count_next : {X : Type 0} (p : X → Bool) (xs : List X) (d : X) (n : ℕ) → n < length xs → count_by p (take (n + 1) xs) ≡ count_by p (take n xs) + cond (p (get_or xs n d)) 1 0
+count_next : {X : Type 0} (p : X → Bool) (xs : List X) (d : X) (n : ℕ) → n < length xs →
+    count_by p (take (n + 1) xs) ≡ count_by p (take n xs) + cond (p (get_or xs n d)) 1 0
 count_next p xs d n h = grind (arith, count_by_more_yes, count_by_more_no)
 
 -- one more element counted
-pub count_more : {X : Type 0} (p : X → Bool) (xs : List X) (d : X) (n : ℕ) → n < length xs → count_by p (take (suc n) xs) ≡ count_by p (take n xs) + cond (p (get_or xs n d)) 1 0
+pub count_more : {X : Type 0} (p : X → Bool) (xs : List X) (d : X) (n : ℕ) → n < length xs →
+    count_by p (take (suc n) xs) ≡ count_by p (take n xs) + cond (p (get_or xs n d)) 1 0
 count_more p xs d n h = rw add-one at (count_next p xs d n h)
 
 pub min_low : (f : ℕ → ℕ) (n k : ℕ) → k ≤ n → min_to f n ≤ f k

@@ -11,12 +11,14 @@ use Rattle.demand.proofs.Gaps.{block_less}
 use Rattle.meter.specs.declared.blockers.Blocker.{Blocker}
 use Rattle.meter.specs.Blockers.{IsBlocker}
 
-block_within : (p : PolicyMeaning) (m : CutMeaning) (sheet : SheetParts) (i a o : ℕ) → o < length sheet.tasks → block_of p m sheet i a o ≤ blocking_of p m sheet i a
+block_within : (p : PolicyMeaning) (m : CutMeaning) (sheet : SheetParts) (i a o : ℕ) → o < length sheet.tasks →
+    block_of p m sheet i a o ≤ blocking_of p m sheet i a
 unfolding blocking_of
 block_within p m sheet i a o b = max_at_least (block_of p m sheet i a) (length sheet.tasks) o b
 
 -- one that blocks as long at a later offset is the longest there
-pub kept : (p : PolicyMeaning) (m : CutMeaning) (sheet : SheetParts) → IsValidSheet sheet → IsLawfulPolicy p sheet → (i from a : ℕ) → i < length sheet.tasks → from ≤ a →
+pub kept : (p : PolicyMeaning) (m : CutMeaning) (sheet : SheetParts) → IsValidSheet sheet → IsLawfulPolicy p sheet →
+    (i from a : ℕ) → i < length sheet.tasks → from ≤ a →
     (b : Blocker) → IsBlocker p m sheet i from b → block_of p m sheet i a b.task ≡ b.block → IsBlocker p m sheet i a b
 kept p m sheet ok lawful i from a in_i h b before same = record {
   in_range = before.in_range;

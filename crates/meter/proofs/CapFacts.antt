@@ -20,12 +20,14 @@ reach_grows All Nothing h = absurd h
 reach_grows All (At d) h = absurd h
 reach_grows All All h = omega arith
 
-module _ (p : PolicyMeaning) (sheet : SheetParts) (lawful : IsLawfulPolicy p sheet) (i o : ℕ) (in_i : i < length sheet.tasks) (in_o : o < length sheet.tasks) (ne : i ≢ o) where
+module _ (p : PolicyMeaning) (sheet : SheetParts) (lawful : IsLawfulPolicy p sheet) (i o : ℕ) (in_i : i < length sheet.tasks)
+    (in_o : o < length sheet.tasks) (ne : i ≢ o) where
   pub reach_mono : (a b : ℕ) → a ≤ b → reach_at p sheet i o a ≤ reach_at p sheet i o b
   reach_mono a b h = reach_grows (p.cap sheet i o a) (p.cap sheet i o b) (lawful.cap_grows i o a b in_i in_o ne h)
 
   -- the first offset past one at which the number is less
-  pub least_past : (e low high : ℕ) → high ≤ low + 1 → reach_at p sheet i o low < e → e ≤ reach_at p sheet i o high → IsLeast (λ b. e ≤ reach_at p sheet i o b) high
+  pub least_past : (e low high : ℕ) → high ≤ low + 1 → reach_at p sheet i o low < e → e ≤ reach_at p sheet i o high →
+      IsLeast (λ b. e ≤ reach_at p sheet i o b) high
   least_past e low high near less more = record {
     holds = more;
     least = λ k h. elim (cases_lt low k) [

@@ -1,5 +1,6 @@
 use Rattle.std.specs.Option.{unwrap_or}
-use Rattle.std.proofs.Common.{◌≡◌, ◌≢◌, ℕ, ◌+◌, ◌-◌, ◌≤◌, ◌<◌, Bool, cond, Option, Some, None, length, ap, inl, inr, arith, refl, sym, ◌∙◌, subst, eq-eqb, pos, negsuc}
+use Rattle.std.proofs.Common.{◌≡◌, ◌≢◌, ℕ, ◌+◌, ◌-◌, ◌≤◌, ◌<◌, Bool, cond, Option, Some, None, length, ap, inl, inr, arith, refl, sym, ◌∙◌, subst}
+use Rattle.std.proofs.Common.{eq-eqb, pos, negsuc}
 use Rattle.std.proofs.lemmas.Bool.{cases_lt, cases_eq, ne_eqb}
 use Rattle.std.proofs.lemmas.Int.{ints}
 use Rattle.lists.specs.Searches.{IsLeast, IsLeastTo}
@@ -37,8 +38,10 @@ module _ (curve : Curve) (ok : IsCurve curve) (f : ℕ → ℕ) (mono : (a b : �
   reached : (b : ℕ) → s.until ≤ f b → (a < b) × (alpha_of curve (f b) ≢ alpha_of curve (f a))
   reached b h =
       let here = stair.flat (f a) stair.begun stair.open_yet in
-      let higher = alpha_mono curve ok s.until (f b) h in
-      (elim (cases_lt a b) [ inl l ↦ l | inr g ↦ absurd (omega (arith, mono b a g, stair.open_yet)) ], λ e. absurd (omega (arith, e, here, higher, stair.higher)))
+      let higher = alpha_mono curve ok s.until (f b) h in (
+        elim (cases_lt a b) [ inl l ↦ l | inr g ↦ absurd (omega (arith, mono b a g, stair.open_yet)) ],
+        λ e. absurd (omega (arith, e, here, higher, stair.higher)),
+      )
 
   changed : (b : ℕ) → a < b → alpha_of curve (f b) ≢ alpha_of curve (f a) → s.until ≤ f b
   changed b l ne = elim (cases_lt (f b) s.until) [
@@ -46,19 +49,26 @@ module _ (curve : Curve) (ok : IsCurve curve) (f : ℕ → ℕ) (mono : (a b : �
     | inl h ↦ absurd (ne (stair.flat (f b) (omega (arith, stair.begun, mono a b (omega arith))) h ∙ sym (stair.flat (f a) stair.begun stair.open_yet)))
   ]
 
-module _ (p : PolicyMeaning) (sheet : SheetParts) (ok : IsValidSheet sheet) (lawful : IsLawfulPolicy p sheet) (i o : ℕ) (in_i : i < length sheet.tasks) (in_o : o < length sheet.tasks) where
+module _ (p : PolicyMeaning) (sheet : SheetParts) (ok : IsValidSheet sheet) (lawful : IsLawfulPolicy p sheet) (i o : ℕ)
+    (in_i : i < length sheet.tasks) (in_o : o < length sheet.tasks) where
   compared_reach : i ≢ o → (b : ℕ) → compared_of p sheet i b o ≡ alpha_of (task_at sheet o).curve (reach_at p sheet i o b)
-  compared_reach ne b = ap (λ (w : Bool). cond w (alpha_of (task_at sheet i).curve (b + 1 + (task_at sheet i).jitter)) (cap_count (task_at sheet o).curve (p.cap sheet i o b))) (ne_eqb o i (λ e. ne (sym e))) ∙ count_reach (task_at sheet o).curve (ok.each o in_o).curve (p.cap sheet i o b)
+  compared_reach ne b = ap (λ (w : Bool). cond w (alpha_of (task_at sheet i).curve (b + 1 + (task_at sheet i).jitter))
+      (cap_count (task_at sheet o).curve (p.cap sheet i o b))) (ne_eqb o i (λ e. ne (sym e))) ∙
+      count_reach (task_at sheet o).curve (ok.each o in_o).curve (p.cap sheet i o b)
 
-  is_change : (ne : i ≢ o) (a : ℕ) (s : Stair) → IsStair (task_at sheet o).curve s (reach_at p sheet i o a) → (b : ℕ) → s.until ≤ reach_at p sheet i o b → IsChange p sheet i a o b
+  is_change : (ne : i ≢ o) (a : ℕ) (s : Stair) → IsStair (task_at sheet o).curve s (reach_at p sheet i o a) → (b : ℕ) →
+      s.until ≤ reach_at p sheet i o b → IsChange p sheet i a o b
   is_change ne a s stair b h =
       let r = reached (task_at sheet o).curve (ok.each o in_o).curve (reach_at p sheet i o) (reach_mono p sheet lawful i o in_i in_o ne) a s stair b h in
       record { later = r.0; differs = λ e. r.1 (sym (compared_reach ne b) ∙ e ∙ compared_reach ne a) }
 
-  has_reached : (ne : i ≢ o) (a : ℕ) (s : Stair) → IsStair (task_at sheet o).curve s (reach_at p sheet i o a) → (b : ℕ) → IsChange p sheet i a o b → s.until ≤ reach_at p sheet i o b
-  has_reached ne a s stair b change = changed (task_at sheet o).curve (ok.each o in_o).curve (reach_at p sheet i o) (reach_mono p sheet lawful i o in_i in_o ne) a s stair b change.later (λ e. change.differs (compared_reach ne b ∙ e ∙ sym (compared_reach ne a)))
+  has_reached : (ne : i ≢ o) (a : ℕ) (s : Stair) → IsStair (task_at sheet o).curve s (reach_at p sheet i o a) → (b : ℕ) →
+      IsChange p sheet i a o b → s.until ≤ reach_at p sheet i o b
+  has_reached ne a s stair b change = changed (task_at sheet o).curve (ok.each o in_o).curve (reach_at p sheet i o)
+      (reach_mono p sheet lawful i o in_i in_o ne) a s stair b change.later (λ e. change.differs (compared_reach ne b ∙ e ∙ sym (compared_reach ne a)))
 
-  pub other_change : (ne : i ≢ o) (a last : ℕ) (s : Stair) → IsStair (task_at sheet o).curve s (reach_at p sheet i o a) → (r : Option ℕ) → IsLeastTo (λ b. s.until ≤ reach_at p sheet i o b) last r → IsLeastTo (IsChange p sheet i a o) last r
+  pub other_change : (ne : i ≢ o) (a last : ℕ) (s : Stair) → IsStair (task_at sheet o).curve s (reach_at p sheet i o a) →
+      (r : Option ℕ) → IsLeastTo (λ b. s.until ≤ reach_at p sheet i o b) last r → IsLeastTo (IsChange p sheet i a o) last r
   other_change ne a last s stair None none = λ k l change. none k l (has_reached ne a s stair k change)
   other_change ne a last s stair (Some n) least = (
     least.0,
@@ -68,10 +78,14 @@ module _ (p : PolicyMeaning) (sheet : SheetParts) (ok : IsValidSheet sheet) (law
     },
   )
 
-own_compared : (p : PolicyMeaning) (sheet : SheetParts) (i b : ℕ) → compared_of p sheet i b i ≡ alpha_of (task_at sheet i).curve (b + 1 + (task_at sheet i).jitter)
-own_compared p sheet i b = ap (λ (w : Bool). cond w (alpha_of (task_at sheet i).curve (b + 1 + (task_at sheet i).jitter)) (cap_count (task_at sheet i).curve (p.cap sheet i i b))) (eq-eqb i i refl)
+own_compared : (p : PolicyMeaning) (sheet : SheetParts) (i b : ℕ) →
+    compared_of p sheet i b i ≡ alpha_of (task_at sheet i).curve (b + 1 + (task_at sheet i).jitter)
+own_compared p sheet i b = ap (λ (w : Bool). cond w (alpha_of (task_at sheet i).curve (b + 1 + (task_at sheet i).jitter))
+    (cap_count (task_at sheet i).curve (p.cap sheet i i b))) (eq-eqb i i refl)
 
-pub own_change : (p : PolicyMeaning) (sheet : SheetParts) → IsValidSheet sheet → (i a : ℕ) → i < length sheet.tasks → (s : Stair) → IsStair (task_at sheet i).curve s (a + 1 + (task_at sheet i).jitter) → IsLeast (IsChange p sheet i a i) (s.until - 1 - (task_at sheet i).jitter)
+pub own_change : (p : PolicyMeaning) (sheet : SheetParts) → IsValidSheet sheet → (i a : ℕ) → i < length sheet.tasks →
+    (s : Stair) → IsStair (task_at sheet i).curve s (a + 1 + (task_at sheet i).jitter) →
+    IsLeast (IsChange p sheet i a i) (s.until - 1 - (task_at sheet i).jitter)
 own_change p sheet ok i a in_i s stair =
     let curve = (task_at sheet i).curve in
     let jitter = (task_at sheet i).jitter in
@@ -82,7 +96,8 @@ own_change p sheet ok i a in_i s stair =
     record {
       holds = record { later = r.0; differs = λ e. r.1 (sym (own_compared p sheet i next) ∙ e ∙ own_compared p sheet i a) };
       least = λ k change.
-          let h : s.until ≤ k + 1 + jitter = changed curve valid (λ b. b + 1 + jitter) mono a s stair k change.later (λ e. change.differs (own_compared p sheet i k ∙ e ∙ sym (own_compared p sheet i a))) in
+          let h : s.until ≤ k + 1 + jitter = changed curve valid (λ b. b + 1 + jitter) mono a s stair k change.later
+          (λ e. change.differs (own_compared p sheet i k ∙ e ∙ sym (own_compared p sheet i a))) in
           omega arith;
     }
 
@@ -113,15 +128,23 @@ module _ (p : PolicyMeaning) (sheet : SheetParts) (i a o : ℕ) where
     differs = λ l. absurd (omega arith);
   }
 
-  pub counted_by : a < 1000000000 → (r : Option ℕ) → IsLeastTo (IsChange p sheet i a o) 1000000000 r → IsCounted p sheet i a o (compared_of p sheet i a o) (unwrap_or r 2000000000)
+  pub counted_by : a < 1000000000 → (r : Option ℕ) → IsLeastTo (IsChange p sheet i a o) 1000000000 r →
+      IsCounted p sheet i a o (compared_of p sheet i a o) (unwrap_or r 2000000000)
   counted_by less None h = counted_none h less
   counted_by less (Some n) h = counted_some n h.1
 
 -- no number is greater than the limits let it
-pub compared_high : (p : PolicyMeaning) (sheet : SheetParts) → IsValidSheet sheet → IsLawfulPolicy p sheet → (i a o : ℕ) → i < length sheet.tasks → o < length sheet.tasks → a < 1000000000 → compared_of p sheet i a o ≤ 5000000000000000
+pub compared_high : (p : PolicyMeaning) (sheet : SheetParts) → IsValidSheet sheet → IsLawfulPolicy p sheet → (i a o : ℕ) →
+    i < length sheet.tasks → o < length sheet.tasks → a < 1000000000 → compared_of p sheet i a o ≤ 5000000000000000
 compared_high p sheet ok lawful i a o in_i in_o less = elim (cases_eq i o) [
   | inl e ↦ subst (λ w. compared_of p sheet i a w ≤ 5000000000000000) e
-      (omega (arith, own_compared p sheet i a, alpha_bound (task_at sheet i).curve (ok.each i in_i).curve (a + 1 + (task_at sheet i).jitter), jitter_high (task_at sheet i) (ok.each i in_i)))
+      (omega (
+        arith,
+        own_compared p sheet i a,
+        alpha_bound (task_at sheet i).curve (ok.each i in_i).curve
+            (a + 1 + (task_at sheet i).jitter),
+        jitter_high (task_at sheet i) (ok.each i in_i),
+      ))
   | inr ne ↦ omega (
     arith,
     compared_reach p sheet ok lawful i o in_i in_o ne a,

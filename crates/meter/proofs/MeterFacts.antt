@@ -12,7 +12,8 @@ use Rattle.meter.proofs.PlaceFacts.{sum_high}
 use Rattle.meter.proofs.MoveFacts.{near_of}
 use Rattle.meter.proofs.NeedFacts.{rest_le, need_is}
 
-module _ (p : PolicyMeaning) (m : CutMeaning) (sheet : SheetParts) (i a x : ℕ) (t : Tracks) (begun : List ℕ) (blocker : Blocker) (rest : ℕ) (is : IsMetering p m sheet i a x t begun blocker rest) where
+module _ (p : PolicyMeaning) (m : CutMeaning) (sheet : SheetParts) (i a x : ℕ) (t : Tracks) (begun : List ℕ) (blocker : Blocker)
+    (rest : ℕ) (is : IsMetering p m sheet i a x t begun blocker rest) where
   pub whole_high : t.sum ≤ 2 ^ 91
   whole_high =
       let tracking = is.seated.tracking in

@@ -13,19 +13,24 @@ use Rattle.meter.specs.declared.tracks.Tracks.{Tracks}
 use Rattle.meter.specs.Soonests.{number_of, IsNextFrom}
 use Rattle.meter.specs.Changes.{IsCounted}
 use Rattle.meter.specs.Places.{no_place, place_of, part_of, asked_of, IsNear, AreNear}
-use Rattle.meter.specs.Tracking.{IsKeyed, IsTracking, IsTrackingAt, HasBegun, IsOpen, AreEnded, AreCounted, IsCountedAt, KeepCounts, KeepEnds, IsEndMoved, IsRecounted, AreMoved, AreRecounted, IsReady, IsSeated, IsSeatedAt, IsSettled, AreSeated}
+use Rattle.meter.specs.Tracking.{IsKeyed, IsTracking, IsTrackingAt, HasBegun, IsOpen, AreEnded, AreCounted, IsCountedAt, KeepCounts, KeepEnds}
+use Rattle.meter.specs.Tracking.{IsEndMoved, IsRecounted, AreMoved, AreRecounted, IsReady, IsSeated, IsSeatedAt, IsSettled, AreSeated}
 use Rattle.meter.proofs.SetFacts.{set_one, set_two, set_three}
 
-pub near_of : (p : PolicyMeaning) (sheet : SheetParts) (i : ℕ) (places : List Place) (untils froms : List ℕ) (sum : ℕ) → IsTracking p sheet i places untils froms sum → AreNear sheet places
+pub near_of : (p : PolicyMeaning) (sheet : SheetParts) (i : ℕ) (places : List Place) (untils froms : List ℕ) (sum : ℕ) →
+    IsTracking p sheet i places untils froms sum → AreNear sheet places
 near_of p sheet i places untils froms sum tracking = record { count = tracking.count; each = λ o b. (tracking.each o b).near }
 
 -- the stair of one task at another end
-module _ (p : PolicyMeaning) (sheet : SheetParts) (i x : ℕ) (high : x ≤ 1000000000) (places : List Place) (untils froms : List ℕ) (sum : ℕ) (tracking : IsTracking p sheet i places untils froms sum)
-    (o : ℕ) (b : o < length sheet.tasks) (low : (task_at sheet o).jitter ≤ 1000000000) (end : Stair) (stair : IsStair (task_at sheet o).curve end (x + (task_at sheet o).jitter)) where
+module _ (p : PolicyMeaning) (sheet : SheetParts) (i x : ℕ) (high : x ≤ 1000000000) (places : List Place) (untils froms : List ℕ)
+    (sum : ℕ) (tracking : IsTracking p sheet i places untils froms sum)
+    (o : ℕ) (b : o < length sheet.tasks) (low : (task_at sheet o).jitter ≤ 1000000000) (end : Stair)
+    (stair : IsStair (task_at sheet o).curve end (x + (task_at sheet o).jitter)) where
   abbrev moved : Place
   moved = record { end = end; count = (place_of places o).count }
 
-  moved_keyed : (until from : ℕ) → until ≡ end.until - (task_at sheet o).jitter → from ≡ 5000000000 + (task_at sheet o).jitter - end.from → IsKeyed (task_at sheet o) moved until from
+  moved_keyed : (until from : ℕ) → until ≡ end.until - (task_at sheet o).jitter →
+      from ≡ 5000000000 + (task_at sheet o).jitter - end.from → IsKeyed (task_at sheet o) moved until from
   moved_keyed until from e f = record {
     near = record { at = x + (task_at sheet o).jitter; near = omega arith; stair = stair; count_high = (tracking.each o b).near.count_high };
     until_is = omega (arith, e, stair.open_yet);
@@ -33,7 +38,8 @@ module _ (p : PolicyMeaning) (sheet : SheetParts) (i x : ℕ) (high : x ≤ 1000
   }
 
   pub end_tracking : (until from new : ℕ) → until ≡ end.until - (task_at sheet o).jitter → from ≡ 5000000000 + (task_at sheet o).jitter - end.from →
-      new ≡ sum_below (asked_of p sheet i (set places o moved)) (length sheet.tasks) → IsTracking p sheet i (set places o moved) (set untils o until) (set froms o from) new
+      new ≡ sum_below (asked_of p sheet i (set places o moved)) (length sheet.tasks) →
+      IsTracking p sheet i (set places o moved) (set untils o until) (set froms o from) new
   end_tracking until from new e f s = record {
     count = omega (arith, length-set places o moved, tracking.count);
     full = record {
@@ -41,18 +47,21 @@ module _ (p : PolicyMeaning) (sheet : SheetParts) (i x : ℕ) (high : x ≤ 1000
       froms_count = omega (arith, length-set froms o from, tracking.full.froms_count);
     };
     each = λ k l. set_three (λ k place u v. IsKeyed (task_at sheet k) place u v) places untils froms o moved no_place until 0 from 0
-        (omega (arith, tracking.count)) (omega (arith, tracking.full.untils_count)) (omega (arith, tracking.full.froms_count)) (moved_keyed until from e f) k (λ ne. tracking.each k l);
+        (omega (arith, tracking.count)) (omega (arith, tracking.full.untils_count)) (omega (arith, tracking.full.froms_count))
+        (moved_keyed until from e f) k (λ ne. tracking.each k l);
     sum_is = s;
   }
 
   pub end_at : IsStair (task_at sheet o).curve (place_of (set places o moved) o).end (x + (task_at sheet o).jitter)
-  end_at = subst (λ (s : Place). IsStair (task_at sheet o).curve s.end (x + (task_at sheet o).jitter)) (sym (get_or-set_same places o moved no_place (omega (arith, tracking.count)))) stair
+  end_at = subst (λ (s : Place). IsStair (task_at sheet o).curve s.end (x + (task_at sheet o).jitter))
+      (sym (get_or-set_same places o moved no_place (omega (arith, tracking.count)))) stair
 
   pub end_counts : KeepCounts places (set places o moved)
   end_counts k = set_one (λ k s. s.count ≡ (place_of places k).count) places o moved no_place (omega (arith, tracking.count)) refl k (λ ne. refl)
 
 -- the number of one task at another offset
-module _ (p : PolicyMeaning) (sheet : SheetParts) (i a : ℕ) (places : List Place) (untils froms changes : List ℕ) (sum : ℕ) (full : length changes ≡ length sheet.tasks) (tracking : IsTracking p sheet i places untils froms sum)
+module _ (p : PolicyMeaning) (sheet : SheetParts) (i a : ℕ) (places : List Place) (untils froms changes : List ℕ) (sum : ℕ)
+    (full : length changes ≡ length sheet.tasks) (tracking : IsTracking p sheet i places untils froms sum)
     (o : ℕ) (b : o < length sheet.tasks) (count change : ℕ) (high : count ≤ 5000000000000000) (counted : IsCounted p sheet i a o count change) where
   abbrev renewed : Place
   renewed = record { end = (place_of places o).end; count = count }
@@ -66,16 +75,19 @@ module _ (p : PolicyMeaning) (sheet : SheetParts) (i a : ℕ) (places : List Pla
         from_is = old.from_is;
       }
 
-  pub count_tracking : (new : ℕ) → new ≡ sum_below (asked_of p sheet i (set places o renewed)) (length sheet.tasks) → IsTracking p sheet i (set places o renewed) untils froms new
+  pub count_tracking : (new : ℕ) → new ≡ sum_below (asked_of p sheet i (set places o renewed)) (length sheet.tasks) →
+      IsTracking p sheet i (set places o renewed) untils froms new
   count_tracking new s = record {
     count = omega (arith, length-set places o renewed, tracking.count);
     full = tracking.full;
-    each = λ k l. set_one (λ k place. IsKeyed (task_at sheet k) place (number_of untils k) (number_of froms k)) places o renewed no_place (omega (arith, tracking.count)) renewed_keyed k (λ ne. tracking.each k l);
+    each = λ k l. set_one (λ k place. IsKeyed (task_at sheet k) place (number_of untils k) (number_of froms k)) places o renewed
+        no_place (omega (arith, tracking.count)) renewed_keyed k (λ ne. tracking.each k l);
     sum_is = s;
   }
 
   pub count_at : IsCountedAt p sheet i a (set places o renewed) (set changes o change) o
-  count_at = set_two (λ k place w. IsCounted p sheet i a o place.count w) places changes o renewed no_place change 0 (omega (arith, tracking.count)) (omega (arith, full)) counted o (λ ne. absurd (ne refl))
+  count_at = set_two (λ k place w. IsCounted p sheet i a o place.count w) places changes o renewed no_place change 0
+      (omega (arith, tracking.count)) (omega (arith, full)) counted o (λ ne. absurd (ne refl))
 
   pub count_others : (k c : ℕ) → k ≢ o → IsCountedAt p sheet i c places changes k → IsCountedAt p sheet i c (set places o renewed) (set changes o change) k
   count_others k c ne old =
@@ -95,7 +107,8 @@ pub record IsMoving (p : PolicyMeaning) (sheet : SheetParts) (i : ℕ) (Always D
   pub changes : t.changes ≡ before.changes
 
 module _ (p : PolicyMeaning) (sheet : SheetParts) (i : ℕ) (Always Done : ℕ → Stair → Type 0) where
-  pub started : (t : Tracks) → IsTrackingAt p sheet i t → ((k : ℕ) → k < length sheet.tasks → Always k (place_of t.places.items k).end) → IsMoving p sheet i Always Done 0 t t
+  pub started : (t : Tracks) → IsTrackingAt p sheet i t →
+      ((k : ℕ) → k < length sheet.tasks → Always k (place_of t.places.items k).end) → IsMoving p sheet i Always Done 0 t t
   started t tracking always = record {
     within = omega arith;
     tracking = tracking;
@@ -106,7 +119,8 @@ module _ (p : PolicyMeaning) (sheet : SheetParts) (i : ℕ) (Always Done : ℕ �
   }
 
   -- past those of which it holds already
-  pub skipped : (o n : ℕ) (before t : Tracks) → IsMoving p sheet i Always Done o before t → n ≤ length sheet.tasks → ((k : ℕ) → o ≤ k → k < n → Done k (place_of t.places.items k).end) → IsMoving p sheet i Always Done n before t
+  pub skipped : (o n : ℕ) (before t : Tracks) → IsMoving p sheet i Always Done o before t → n ≤ length sheet.tasks →
+      ((k : ℕ) → o ≤ k → k < n → Done k (place_of t.places.items k).end) → IsMoving p sheet i Always Done n before t
   skipped o n before t moving within past = record {
     within = within;
     tracking = moving.tracking;
@@ -147,7 +161,8 @@ module _ (p : PolicyMeaning) (sheet : SheetParts) (i x : ℕ) where
       skipped p sheet i (HasBegun sheet x) (IsOpen sheet x) o n before t moving (omega (arith, next.within, moving.tracking.full.untils_count))
       (λ k h l. omega (arith, next.none k h l, (moving.tracking.each k (omega (arith, next.within, moving.tracking.full.untils_count))).until_is))
 
-  pub falling_on : (high : x ≤ 1000000000) (o n : ℕ) (before t : Tracks) → IsFalling o before t → IsNextFrom t.froms o (5000000000 - 1 - x) n → IsFalling n before t
+  pub falling_on : (high : x ≤ 1000000000) (o n : ℕ) (before t : Tracks) → IsFalling o before t →
+      IsNextFrom t.froms o (5000000000 - 1 - x) n → IsFalling n before t
   falling_on high o n before t moving next =
       skipped p sheet i (IsOpen sheet x) (HasBegun sheet x) o n before t moving (omega (arith, next.within, moving.tracking.full.froms_count))
       (λ k h l. omega (arith, next.none k h l, (moving.tracking.each k (omega (arith, next.within, moving.tracking.full.froms_count))).from_is))
@@ -155,8 +170,10 @@ module _ (p : PolicyMeaning) (sheet : SheetParts) (i x : ℕ) where
   pub risen_one : (o : ℕ) (before t new : Tracks) → o < length sheet.tasks → IsRising o before t → IsEndMoved p sheet i x o t new → IsRising (o + 1) before new
   risen_one o before t new b moving step = moved_one p sheet i (HasBegun sheet x) (IsOpen sheet x) o x before t new b moving step step.at.begun step.at.open_yet
 
-  pub fallen_one : (o : ℕ) (before t new : Tracks) → o < length sheet.tasks → IsFalling o before t → IsEndMoved p sheet i x o t new → IsFalling (o + 1) before new
-  fallen_one o before t new b moving step = moved_one p sheet i (IsOpen sheet x) (HasBegun sheet x) o x before t new b moving step step.at.open_yet step.at.begun
+  pub fallen_one : (o : ℕ) (before t new : Tracks) → o < length sheet.tasks → IsFalling o before t →
+      IsEndMoved p sheet i x o t new → IsFalling (o + 1) before new
+  fallen_one o before t new b moving step =
+      moved_one p sheet i (IsOpen sheet x) (HasBegun sheet x) o x before t new b moving step step.at.open_yet step.at.begun
 
   ended : (t : Tracks) → IsTrackingAt p sheet i t → ((k : ℕ) → k < length sheet.tasks → HasBegun sheet x k (place_of t.places.items k).end) →
       ((k : ℕ) → k < length sheet.tasks → IsOpen sheet x k (place_of t.places.items k).end) → AreEnded sheet x t.places.items (length sheet.tasks)
@@ -181,7 +198,8 @@ module _ (p : PolicyMeaning) (sheet : SheetParts) (i x : ℕ) where
   }
 
 -- before the next change a number stands for later offsets too
-pub counted_later : (p : PolicyMeaning) (sheet : SheetParts) (i a b o count change : ℕ) → a ≤ b → b ≤ 1000000000 → b < change → IsCounted p sheet i a o count change → IsCounted p sheet i b o count change
+pub counted_later : (p : PolicyMeaning) (sheet : SheetParts) (i a b o count change : ℕ) → a ≤ b → b ≤ 1000000000 → b < change →
+    IsCounted p sheet i a o count change → IsCounted p sheet i b o count change
 counted_later p sheet i a b o count change h high less counted = record {
   is = sym (counted.same b h less high);
   later = less;
@@ -209,7 +227,8 @@ module _ (p : PolicyMeaning) (sheet : SheetParts) (i a b : ℕ) where
     ends = λ k. refl;
   }
 
-  pub recount_skipped : a ≤ b → b ≤ 1000000000 → (o n : ℕ) (before t : Tracks) → IsRecounting p sheet i a b o before t → IsNextFrom t.changes o b n → IsRecounting p sheet i a b n before t
+  pub recount_skipped : a ≤ b → b ≤ 1000000000 → (o n : ℕ) (before t : Tracks) → IsRecounting p sheet i a b o before t →
+      IsNextFrom t.changes o b n → IsRecounting p sheet i a b n before t
   recount_skipped order high o n before t counting next = record {
     within = omega (arith, next.within, counting.count);
     tracking = counting.tracking;
@@ -222,7 +241,8 @@ module _ (p : PolicyMeaning) (sheet : SheetParts) (i a b : ℕ) where
     ends = counting.ends;
   }
 
-  pub recounted_one : (o : ℕ) (before t new : Tracks) → o < length sheet.tasks → IsRecounting p sheet i a b o before t → IsRecounted p sheet i b o t new → IsRecounting p sheet i a b (o + 1) before new
+  pub recounted_one : (o : ℕ) (before t new : Tracks) → o < length sheet.tasks → IsRecounting p sheet i a b o before t →
+      IsRecounted p sheet i b o t new → IsRecounting p sheet i a b (o + 1) before new
   recounted_one o before t new l counting step = record {
     within = omega arith;
     tracking = step.tracking;
@@ -243,12 +263,14 @@ module _ (p : PolicyMeaning) (sheet : SheetParts) (i a b : ℕ) where
   }
 
 -- all that is kept of one task, set
-module _ (places : List Place) (untils froms changes : List ℕ) (o : ℕ) (in_places : o < length places) (in_untils : o < length untils) (in_froms : o < length froms) (in_changes : o < length changes)
+module _ (places : List Place) (untils froms changes : List ℕ) (o : ℕ) (in_places : o < length places)
+    (in_untils : o < length untils) (in_froms : o < length froms) (in_changes : o < length changes)
     (place : Place) (until from change : ℕ) where
   all_same : (P : Place → ℕ → ℕ → ℕ → Type 0) → P place until from change →
       P (place_of (set places o place) o) (number_of (set untils o until) o) (number_of (set froms o from) o) (number_of (set changes o change) o)
   all_same P h =
-      subst (λ (s : Place). P s (number_of (set untils o until) o) (number_of (set froms o from) o) (number_of (set changes o change) o)) (sym (get_or-set_same places o place no_place in_places))
+      subst (λ (s : Place). P s (number_of (set untils o until) o) (number_of (set froms o from) o)
+      (number_of (set changes o change) o)) (sym (get_or-set_same places o place no_place in_places))
       (subst (λ w. P place w (number_of (set froms o from) o) (number_of (set changes o change) o)) (sym (get_or-set_same untils o until 0 in_untils))
       (subst (λ w. P place until w (number_of (set changes o change) o)) (sym (get_or-set_same froms o from 0 in_froms))
       (subst (P place until from) (sym (get_or-set_same changes o change 0 in_changes)) h)))
@@ -256,17 +278,21 @@ module _ (places : List Place) (untils froms changes : List ℕ) (o : ℕ) (in_p
   all_other : (P : Place → ℕ → ℕ → ℕ → Type 0) (k : ℕ) → k ≢ o → P (place_of places k) (number_of untils k) (number_of froms k) (number_of changes k) →
       P (place_of (set places o place) k) (number_of (set untils o until) k) (number_of (set froms o from) k) (number_of (set changes o change) k)
   all_other P k ne h =
-      subst (λ (s : Place). P s (number_of (set untils o until) k) (number_of (set froms o from) k) (number_of (set changes o change) k)) (sym (get_or-set_other places o k place no_place ne))
+      subst (λ (s : Place). P s (number_of (set untils o until) k) (number_of (set froms o from) k)
+      (number_of (set changes o change) k)) (sym (get_or-set_other places o k place no_place ne))
       (subst (λ w. P (place_of places k) w (number_of (set froms o from) k) (number_of (set changes o change) k)) (sym (get_or-set_other untils o k until 0 ne))
       (subst (λ w. P (place_of places k) (number_of untils k) w (number_of (set changes o change) k)) (sym (get_or-set_other froms o k from 0 ne))
       (subst (P (place_of places k) (number_of untils k) (number_of froms k)) (sym (get_or-set_other changes o k change 0 ne)) h)))
 
   pub settled_at : (p : PolicyMeaning) (sheet : SheetParts) (i : ℕ) → IsSeated p sheet i 0 0 o place until from change →
-      IsSeated p sheet i 0 0 o (place_of (set places o place) o) (number_of (set untils o until) o) (number_of (set froms o from) o) (number_of (set changes o change) o)
+      IsSeated p sheet i 0 0 o (place_of (set places o place) o) (number_of (set untils o until) o)
+      (number_of (set froms o from) o) (number_of (set changes o change) o)
   settled_at p sheet i h = all_same (IsSeated p sheet i 0 0 o) h
 
-  pub settled_others : (p : PolicyMeaning) (sheet : SheetParts) (i k : ℕ) → k ≢ o → IsSeated p sheet i 0 0 k (place_of places k) (number_of untils k) (number_of froms k) (number_of changes k) →
-      IsSeated p sheet i 0 0 k (place_of (set places o place) k) (number_of (set untils o until) k) (number_of (set froms o from) k) (number_of (set changes o change) k)
+  pub settled_others : (p : PolicyMeaning) (sheet : SheetParts) (i k : ℕ) → k ≢ o →
+      IsSeated p sheet i 0 0 k (place_of places k) (number_of untils k) (number_of froms k) (number_of changes k) →
+      IsSeated p sheet i 0 0 k (place_of (set places o place) k) (number_of (set untils o until) k)
+      (number_of (set froms o from) k) (number_of (set changes o change) k)
   settled_others p sheet i k ne h = all_other (IsSeated p sheet i 0 0 k) k ne h
 
   pub settled_near : (sheet : SheetParts) → o < length sheet.tasks → AreNear sheet places → IsNear (task_at sheet o) place → AreNear sheet (set places o place)
@@ -283,7 +309,8 @@ pub record IsSeating (p : PolicyMeaning) (sheet : SheetParts) (i o : ℕ) (t : T
   pub few : t.sum ≤ o * 2 ^ 83
 
 module _ (p : PolicyMeaning) (sheet : SheetParts) (i : ℕ) where
-  pub seated_one : (o : ℕ) (t new : Tracks) → IsSeating p sheet i o t → IsSettled p sheet i o t new → new.sum ≤ (o + 1) * 2 ^ 83 → IsSeating p sheet i (o + 1) new
+  pub seated_one : (o : ℕ) (t new : Tracks) → IsSeating p sheet i o t → IsSettled p sheet i o t new → new.sum ≤ (o + 1) * 2 ^ 83 →
+      IsSeating p sheet i (o + 1) new
   seated_one o t new seating step few = record {
     ready = step.ready;
     done = λ k l. elim (cases_eq k o) [
@@ -291,8 +318,10 @@ module _ (p : PolicyMeaning) (sheet : SheetParts) (i : ℕ) where
       | inr ne ↦ step.others k ne (seating.done k (omega arith))
     ];
     sum_is =
-        let before = sum_same (asked_of p sheet i t.places.items) (asked_of p sheet i new.places.items) o (λ k l. ap (part_of p sheet i k) (sym (step.places k (λ e. omega arith)))) in
-        let more : sum_below (asked_of p sheet i new.places.items) (o + 1) ≡ sum_below (asked_of p sheet i new.places.items) o + asked_of p sheet i new.places.items o = rw add-one refl in
+        let before = sum_same (asked_of p sheet i t.places.items) (asked_of p sheet i new.places.items) o
+        (λ k l. ap (part_of p sheet i k) (sym (step.places k (λ e. omega arith)))) in
+        let more : sum_below (asked_of p sheet i new.places.items) (o + 1) ≡ sum_below
+        (asked_of p sheet i new.places.items) o + asked_of p sheet i new.places.items o = rw add-one refl in
         omega (arith, step.sum_is, seating.sum_is, before, more);
     few = few;
   }
@@ -310,7 +339,8 @@ module _ (p : PolicyMeaning) (sheet : SheetParts) (i : ℕ) where
   }
 
 -- after the stairs the numbers
-pub shifted : (p : PolicyMeaning) (sheet : SheetParts) (i b x : ℕ) (t u v : Tracks) → AreMoved p sheet i x t u → AreRecounted p sheet i b u v → AreSeated p sheet i b x v
+pub shifted : (p : PolicyMeaning) (sheet : SheetParts) (i b x : ℕ) (t u v : Tracks) → AreMoved p sheet i x t u →
+    AreRecounted p sheet i b u v → AreSeated p sheet i b x v
 shifted p sheet i b x t u v moved counted = record {
   tracking = counted.tracking;
   ended = λ k l. subst (λ (s : Stair). IsStair (task_at sheet k).curve s (x + (task_at sheet k).jitter)) (sym (counted.ends k)) (moved.ended k l);
@@ -318,7 +348,8 @@ shifted p sheet i b x t u v moved counted = record {
 }
 
 -- the numbers stay where the stairs move
-pub still_counted : (p : PolicyMeaning) (sheet : SheetParts) (i a x : ℕ) (t u : Tracks) → AreCounted p sheet i a t.places.items t.changes → AreMoved p sheet i x t u → AreCounted p sheet i a u.places.items u.changes
+pub still_counted : (p : PolicyMeaning) (sheet : SheetParts) (i a x : ℕ) (t u : Tracks) →
+    AreCounted p sheet i a t.places.items t.changes → AreMoved p sheet i x t u → AreCounted p sheet i a u.places.items u.changes
 still_counted p sheet i a x t u counted moved = record {
   count = ap (λ (ns : List ℕ). length ns) moved.changes ∙ counted.count;
   each = λ k l. subst (λ w. IsCounted p sheet i a k w (number_of u.changes k)) (sym (moved.counts k))

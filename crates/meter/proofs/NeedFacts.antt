@@ -45,7 +45,8 @@ counted_is curve ok jitter x (At c) All h place e f = absurd h
 counted_is curve ok jitter x All Nothing h place e f = absurd h
 counted_is curve ok jitter x All (At d) h place e f = absurd h
 
-module _ (p : PolicyMeaning) (m : CutMeaning) (sheet : SheetParts) (ok : IsValidSheet sheet) (lawful : IsLawfulPolicy p sheet) (i a x : ℕ) (in_i : i < length sheet.tasks) (t : Tracks) (is : AreSeated p sheet i a x t) where
+module _ (p : PolicyMeaning) (m : CutMeaning) (sheet : SheetParts) (ok : IsValidSheet sheet) (lawful : IsLawfulPolicy p sheet)
+    (i a x : ℕ) (in_i : i < length sheet.tasks) (t : Tracks) (is : AreSeated p sheet i a x t) where
   abbrev places : List Place
   places = t.places.items
 
@@ -57,7 +58,8 @@ module _ (p : PolicyMeaning) (m : CutMeaning) (sheet : SheetParts) (ok : IsValid
       let place = place_of places i in
       let cost = (task_at sheet i).cost in
       let counted = is.counted.each i in_i in
-      let count = counted.is ∙ ap (λ (b : Bool). cond b (alpha_of (task_at sheet i).curve (a + 1 + (task_at sheet i).jitter)) (cap_count (task_at sheet i).curve (p.cap sheet i i a))) (eq-eqb i i refl) in
+      let count = counted.is ∙ ap (λ (b : Bool). cond b (alpha_of (task_at sheet i).curve (a + 1 + (task_at sheet i).jitter))
+      (cap_count (task_at sheet i).curve (p.cap sheet i i a))) (eq-eqb i i refl) in
       ap (λ (b : Bool). cost * cond b place.count (counted_of (p.cap sheet i i 0) place)) (eq-eqb i i refl) ∙ ap (λ (w : ℕ). cost * w) count
 
   other_asked : (o : ℕ) → o < length sheet.tasks → o ≢ i → other_of p sheet i a x o ≡ asked_of p sheet i places o
@@ -68,8 +70,10 @@ module _ (p : PolicyMeaning) (m : CutMeaning) (sheet : SheetParts) (ok : IsValid
       let stair = is.ended o b in
       let value = sym (stair.flat (x + task.jitter) stair.begun stair.open_yet) in
       let counted = is.counted.each o b in
-      let count = counted.is ∙ ap (λ (b : Bool). cond b (alpha_of (task_at sheet i).curve (a + 1 + (task_at sheet i).jitter)) (cap_count curve (p.cap sheet i o a))) (ne_eqb o i ne) in
-      let same = counted_is curve (ok.each o b).curve task.jitter x (p.cap sheet i o 0) (p.cap sheet i o a) (lawful.cap_grows i o 0 a in_i b (λ e. ne (sym e)) (omega arith)) place value count in
+      let count = counted.is ∙ ap (λ (b : Bool). cond b (alpha_of (task_at sheet i).curve (a + 1 + (task_at sheet i).jitter))
+      (cap_count curve (p.cap sheet i o a))) (ne_eqb o i ne) in
+      let same = counted_is curve (ok.each o b).curve task.jitter x (p.cap sheet i o 0) (p.cap sheet i o a)
+      (lawful.cap_grows i o 0 a in_i b (λ e. ne (sym e)) (omega arith)) place value count in
       ap (λ (w : Bool). cond w 0 (task.cost * capped_count curve task.jitter (p.cap sheet i o a) x)) (ne_eqb o i ne)
       ∙ sym (ap (λ (w : Bool). task.cost * cond w place.count (counted_of (p.cap sheet i o 0) place)) (ne_eqb o i ne) ∙ ap (λ (w : ℕ). task.cost * w) same)
 
@@ -78,7 +82,8 @@ module _ (p : PolicyMeaning) (m : CutMeaning) (sheet : SheetParts) (ok : IsValid
   whole_is = omega (
     arith,
     sum_changed (asked_of p sheet i places) (other_of p sheet i a x) (length sheet.tasks) i in_i other_asked,
-    ap (λ (w : Bool). cond w 0 ((task_at sheet i).cost * capped_count (task_at sheet i).curve (task_at sheet i).jitter (p.cap sheet i i a) x)) (eq-eqb i i refl),
+    ap (λ (w : Bool). cond w 0 ((task_at sheet i).cost * capped_count (task_at sheet i).curve (task_at sheet i).jitter
+        (p.cap sheet i i a) x)) (eq-eqb i i refl),
     own_asked,
     is.tracking.sum_is,
   )

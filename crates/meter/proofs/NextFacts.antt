@@ -25,9 +25,11 @@ module _ (p : PolicyMeaning) (sheet : SheetParts) (i a : ℕ) (places : List Pla
   changed_at o n in_o e high =
       let here = counted.each o in_o in
       let differs = subst (λ w. w ≤ 1000000000 → compared_of p sheet i w o ≡ (place_of places o).count → ⊥) e here.differs in
-      all_broken (λ k. compared_of p sheet i a k == compared_of p sheet i n k) (length sheet.tasks) o in_o (ne_eqb _ _ (λ same. differs high (sym same ∙ sym here.is)))
+      all_broken (λ k. compared_of p sheet i a k == compared_of p sheet i n k) (length sheet.tasks) o in_o
+      (ne_eqb _ _ (λ same. differs high (sym same ∙ sym here.is)))
 
-  module _ (gap : AcrossGap p) (ok : IsValidSheet sheet) (in_i : i < length sheet.tasks) (below n : ℕ) (high : below ≤ 1000000000) (least : IsLeastOf changes below n) where
+  module _ (gap : AcrossGap p) (ok : IsValidSheet sheet) (in_i : i < length sheet.tasks) (below n : ℕ) (high : below ≤ 1000000000)
+      (least : IsLeastOf changes below n) where
     pub next_some : n < below → IsFirstBelow (IsPointAfter p sheet i a) below (Some n)
     next_some less =
         let there = least.stands less in
@@ -48,7 +50,8 @@ module _ (p : PolicyMeaning) (sheet : SheetParts) (i a : ℕ) (places : List Pla
         after = omega (arith, before);
         order = omega (arith, before);
         within = omega arith;
-        same = same_true p sheet i a (below - 1) (same_to below (λ m b. omega (arith, least.least m b, end)) (below - 1) (omega (arith, before)) (omega (arith, before)) (omega (arith, high)));
+        same = same_true p sheet i a (below - 1)
+            (same_to below (λ m b. omega (arith, least.least m b, end)) (below - 1) (omega (arith, before)) (omega (arith, before)) (omega (arith, high)));
         other = inl refl;
       }) (omega arith)
     ]

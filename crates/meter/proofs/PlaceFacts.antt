@@ -51,7 +51,8 @@ module _ (p : PolicyMeaning) (sheet : SheetParts) (i : ℕ) (places : List Place
 
   -- what all ask for, one of them put at another place
   pub sum_put : AreNear sheet places → (o : ℕ) → o < length sheet.tasks → (place : Place) →
-      sum_below (asked_of p sheet i (set places o place)) (length sheet.tasks) + asked_of p sheet i places o ≡ sum_below (asked_of p sheet i places) (length sheet.tasks) + part_of p sheet i o place
+      sum_below (asked_of p sheet i (set places o place)) (length sheet.tasks) + asked_of p sheet i places o ≡ sum_below
+      (asked_of p sheet i places) (length sheet.tasks) + part_of p sheet i o place
   sum_put near o b place = omega (
     arith,
     sum_changed (asked_of p sheet i places) (asked_of p sheet i (set places o place)) (length sheet.tasks) o b
@@ -68,12 +69,15 @@ chosen_high : (b : Bool) (m n : ℕ) → m ≤ 5000000000000000 → n ≤ 500000
 chosen_high true m n h l = h
 chosen_high false m n h l = l
 
-pub part_high : (p : PolicyMeaning) (sheet : SheetParts) → IsValidSheet sheet → (i o : ℕ) → o < length sheet.tasks → (place : Place) → IsSmall place → part_of p sheet i o place ≤ 2 ^ 83
+pub part_high : (p : PolicyMeaning) (sheet : SheetParts) → IsValidSheet sheet → (i o : ℕ) → o < length sheet.tasks →
+    (place : Place) → IsSmall place → part_of p sheet i o place ≤ 2 ^ 83
 part_high p sheet ok i o b place is =
-    let jobs = chosen_high (o == i) place.count (counted_of (p.cap sheet i o 0) place) is.count (omega (arith, counted_le (p.cap sheet i o 0) place, is.value)) in
+    let jobs = chosen_high (o == i) place.count (counted_of (p.cap sheet i o 0) place) is.count
+    (omega (arith, counted_le (p.cap sheet i o 0) place, is.value)) in
     omega (arith, mul-le-mul_left (task_at sheet o).cost jobs, (ok.each o b).cost_high)
 
-pub sum_high : (p : PolicyMeaning) (sheet : SheetParts) → IsValidSheet sheet → (i : ℕ) (places : List Place) → AreNear sheet places → sum_below (asked_of p sheet i places) (length sheet.tasks) ≤ 2 ^ 91
+pub sum_high : (p : PolicyMeaning) (sheet : SheetParts) → IsValidSheet sheet → (i : ℕ) (places : List Place) →
+    AreNear sheet places → sum_below (asked_of p sheet i places) (length sheet.tasks) ≤ 2 ^ 91
 sum_high p sheet ok i places near = omega (
   arith,
   sum_bound (asked_of p sheet i places) (2 ^ 83) (length sheet.tasks)

@@ -16,7 +16,8 @@ abbrev pub meter_at : SheetParts → ℕ → ℕ → ℕ → MeterParts
 meter_at sheet i a x = record { sheet = sheet; task = i; offset = a; end = x }
 
 -- what a meter keeps that stands there
-pub record IsMetering (p : PolicyMeaning) (m : CutMeaning) (sheet : SheetParts) (i a x : ℕ) (t : Tracks) (begun : List ℕ) (blocker : Blocker) (rest : ℕ) : Type 0 where
+pub record IsMetering (p : PolicyMeaning) (m : CutMeaning) (sheet : SheetParts) (i a x : ℕ) (t : Tracks) (begun : List ℕ)
+    (blocker : Blocker) (rest : ℕ) : Type 0 where
   pub valid : IsValidSheet sheet
   pub served : Serves m sheet
   pub in_range : i < length sheet.tasks

@@ -21,7 +21,8 @@ front_none None name = tt
 front_none (Some files) name = nothing_is_front (files name)
 
 -- what was read so far is a front of the file
-pub front_so_far : (told : Option Files) (name bytes : List ℕ) (left : Option (List ℕ)) → SoFar told name bytes left → IfTold told (λ files. IsFrontOf bytes (files name))
+pub front_so_far : (told : Option Files) (name bytes : List ℕ) (left : Option (List ℕ)) → SoFar told name bytes left →
+    IfTold told (λ files. IsFrontOf bytes (files name))
 front_so_far None name bytes left so_far = tt
 front_so_far (Some files) name bytes left so_far = rw so_far.file (so_far.rest, refl)
 
@@ -38,7 +39,8 @@ poured_nothing Stands eater name limit before now told is_open left f g result e
 pub poured_front : {Eater Made T : Type 0} (Stands : Eater → Made → List ℕ →
     Type 0) (eater after : Eater) (name bytes : List ℕ) (limit : ℕ) (before middle now : List Event) (told : Option Files) (is_open : Bool)
     (left later : Option (List ℕ)) (f g : ℕ) (result : Result T PourRefusal) →
-    result ≡ Err Fault → Ate Stands eater after bytes → length bytes ≤ limit → ReadSoFar name bytes before middle → now ≡ middle ++ (event.ReadFailed ∷ []) → SoFar told name bytes left → HasFailed is_open later f g →
+    result ≡ Err Fault → Ate Stands eater after bytes → length bytes ≤ limit → ReadSoFar name bytes before middle →
+    now ≡ middle ++ (event.ReadFailed ∷ []) → SoFar told name bytes left → HasFailed is_open later f g →
     Poured {T = T} Stands eater after name limit before now told is_open later f g result
 poured_front Stands eater after name bytes limit before middle now told is_open left later f g result e eaten few read calls so_far failed =
     rw e (record {

@@ -27,11 +27,13 @@ module _ {A : Type 0} (format : Format A) where
   -- bytes have one refused line
   pub one_refused_line : (b : List ℕ) (m n : ℕ) → IsRefusedLine format b m → IsRefusedLine format b n → m ≡ n
   one_refused_line b m n h k =
-      let front : h.front ≡ k.front = same_front h.front k.front h.rest k.rest (sym h.whole ∙ k.whole) (omega (arith, h.longest k.front k.rest k.whole k.begins, k.longest h.front h.rest h.whole h.begins)) in
+      let front : h.front ≡ k.front = same_front h.front k.front h.rest k.rest (sym h.whole ∙ k.whole)
+      (omega (arith, h.longest k.front k.rest k.whole k.begins, k.longest h.front h.rest h.whole h.begins)) in
       h.line ∙ ap (λ (l : List ℕ). 1 + newlines l) front ∙ sym k.line
 
   -- bytes have one reading, where no bytes are a text of two values
-  pub one_reading : ((b : List ℕ) (c d : A) → Parses format b c → Parses format b d → c ≡ d) → (b : List ℕ) (r s : Result A TextRefusal) → IsReading format b r → IsReading format b s → r ≡ s
+  pub one_reading : ((b : List ℕ) (c d : A) → Parses format b c → Parses format b d → c ≡ d) →
+      (b : List ℕ) (r s : Result A TextRefusal) → IsReading format b r → IsReading format b s → r ≡ s
   one_reading one_parse b (Ok c) (Ok d) h k = ap Ok (one_parse b c d h k)
   one_reading one_parse b (Ok c) (Err (Line n)) h k = absurd (k.none c h)
   one_reading one_parse b (Ok c) (Err Memory) h k = absurd k

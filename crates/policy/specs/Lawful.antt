@@ -51,11 +51,13 @@ sooner : (d e : ℕ) → key_le (tick_key d) (tick_key e) ≡ false → e < d
 sooner d e h = grind (arith, ints)
 
 -- job j of a task with deadline own is released at offset a; another job, as urgent, arrives at b
-within_cap : (b start a j own other jitter : ℕ) → j ≤ start + a → b + other ≤ j + own → pos (b + jitter) <ℤ (pos start +ℤ (pos (a + 1 + own + jitter) -ℤ pos other))
+within_cap : (b start a j own other jitter : ℕ) → j ≤ start + a → b + other ≤ j + own →
+    pos (b + jitter) <ℤ (pos start +ℤ (pos (a + 1 + own + jitter) -ℤ pos other))
 within_cap b start a j own other jitter late h = omega (arith, ints)
 
 -- with no jitter who blocks has a later deadline than every job that arrives in the window
-none_within : (a own other own_jitter other_jitter : ℕ) → own + a < other + own_jitter → own_jitter + other_jitter ≡ 0 → (pos (a + 1 + own + other_jitter) -ℤ pos other) ≤ℤ pos 0
+none_within : (a own other own_jitter other_jitter : ℕ) → own + a < other + own_jitter → own_jitter + other_jitter ≡ 0 →
+    (pos (a + 1 + own + other_jitter) -ℤ pos other) ≤ℤ pos 0
 none_within a own other own_jitter other_jitter late none = omega (arith, ints)
 
 -- earliest deadline first keeps the laws
@@ -68,7 +70,8 @@ edf_lawful sheet ok = record {
   capped = λ start a k j b c tk tj ne e h l.
       let own = task_at sheet j.task in
       let other = task_at sheet k.task in
-      within_cap k.arrival start a j.arrival own.deadline other.deadline other.jitter (omega (arith, tj.after)) (no_later (k.arrival + other.deadline) (j.arrival + own.deadline) l);
+      within_cap k.arrival start a j.arrival own.deadline other.deadline other.jitter (omega (arith, tj.after))
+      (no_later (k.arrival + other.deadline) (j.arrival + own.deadline) l);
   blocks = λ start a k j b c tk tj ne e h l.
       let own = task_at sheet j.task in
       let other = task_at sheet k.task in

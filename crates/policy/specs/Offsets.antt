@@ -17,7 +17,8 @@ cap_count curve All = 0
 
 -- the number of task o that tells offsets of task i apart
 abbrev pub compared_of : PolicyMeaning → SheetParts → ℕ → ℕ → ℕ → ℕ
-compared_of p sheet i a o = cond (o == i) (alpha_of (task_at sheet i).curve (a + 1 + (task_at sheet i).jitter)) (cap_count (task_at sheet o).curve (p.cap sheet i o a))
+compared_of p sheet i a o = cond (o == i) (alpha_of (task_at sheet i).curve (a + 1 + (task_at sheet i).jitter))
+    (cap_count (task_at sheet o).curve (p.cap sheet i o a))
 
 -- no number tells the offsets a and b apart
 abbrev pub IsSame : PolicyMeaning → SheetParts → ℕ → ℕ → ℕ → Type 0

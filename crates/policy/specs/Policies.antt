@@ -21,7 +21,8 @@ edf_meaning = record {
   class = λ sheet i o. true;
   cap = λ sheet i o a. At (pos (a + 1 + (task_at sheet i).deadline + (task_at sheet o).jitter) -ℤ pos (task_at sheet o).deadline);
   may_block = λ sheet i o a. nat_lt ((task_at sheet i).deadline + a) ((task_at sheet o).deadline + (task_at sheet i).jitter);
-  may_delay = λ sheet i o. nat_lt (task_at sheet i).deadline ((task_at sheet o).deadline + (task_at sheet i).jitter) && nat_lt 0 ((task_at sheet i).jitter + (task_at sheet o).jitter);
+  may_delay = λ sheet i o. nat_lt (task_at sheet i).deadline ((task_at sheet o).deadline + (task_at sheet i).jitter) && nat_lt 0
+      ((task_at sheet i).jitter + (task_at sheet o).jitter);
 }
 
 -- first in, first out: jobs that arrived no later interfere, those that arrived later but were released before may block

@@ -55,9 +55,11 @@ pub record IsLawfulPolicy (p : PolicyMeaning) (sheet : SheetParts) : Type 0 wher
       k.release < start → key_le (p.key sheet k) (p.key sheet j) ≡ false → p.may_block sheet j.task k.task a ≡ true
   -- at later offsets caps grow and fewer tasks block
   pub cap_grows : (i o a b : ℕ) → i < length sheet.tasks → o < length sheet.tasks → i ≢ o → a ≤ b → GrowsTo (p.cap sheet i o a) (p.cap sheet i o b)
-  pub block_falls : (i o a b : ℕ) → i < length sheet.tasks → o < length sheet.tasks → i ≢ o → a ≤ b → p.may_block sheet i o b ≡ true → p.may_block sheet i o a ≡ true
+  pub block_falls : (i o a b : ℕ) → i < length sheet.tasks → o < length sheet.tasks → i ≢ o → a ≤ b →
+      p.may_block sheet i o b ≡ true → p.may_block sheet i o a ≡ true
   pub cap_limited : (i o a : ℕ) → i < length sheet.tasks → o < length sheet.tasks → i ≢ o → a < greatest_number → IsLimited (p.cap sheet i o a)
   -- who is outside the class delays, and only who delays or is capped at the window's begin blocks
   pub cap_class : (i o a : ℕ) → i < length sheet.tasks → o < length sheet.tasks → i ≢ o → p.class sheet i o ≡ false → p.cap sheet i o a ≡ Nothing
   pub outside_delays : (i o : ℕ) → i < length sheet.tasks → o < length sheet.tasks → p.class sheet i o ≡ false → p.may_delay sheet i o ≡ true
-  pub block_delays : (i o a : ℕ) → i < length sheet.tasks → o < length sheet.tasks → i ≢ o → p.may_block sheet i o a ≡ true → (p.may_delay sheet i o ≡ true) ⊎ AdmitsNone (p.cap sheet i o a)
+  pub block_delays : (i o a : ℕ) → i < length sheet.tasks → o < length sheet.tasks → i ≢ o → p.may_block sheet i o a ≡ true →
+      (p.may_delay sheet i o ≡ true) ⊎ AdmitsNone (p.cap sheet i o a)

@@ -12,7 +12,8 @@ gel_meaning = record {
   class = λ sheet i o. true;
   cap = λ sheet i o a. At ((pos (a + 1 + (task_at sheet o).jitter) +ℤ (task_at sheet i).point) -ℤ (task_at sheet o).point);
   may_block = λ sheet i o a. int_lt ((task_at sheet i).point +ℤ pos a) ((task_at sheet o).point +ℤ pos (task_at sheet i).jitter);
-  may_delay = λ sheet i o. int_lt (task_at sheet i).point ((task_at sheet o).point +ℤ pos (task_at sheet i).jitter) && nat_lt 0 ((task_at sheet i).jitter + (task_at sheet o).jitter);
+  may_delay = λ sheet i o. int_lt (task_at sheet i).point ((task_at sheet o).point +ℤ pos (task_at sheet i).jitter) && nat_lt 0
+      ((task_at sheet i).jitter + (task_at sheet o).jitter);
 }
 
 -- what holds of task o against task i: where its priority is greater, equal, or lower

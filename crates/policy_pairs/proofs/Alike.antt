@@ -1,5 +1,6 @@
 -- What demand and points make of policies that say the same.
-use Rattle.std.proofs.Common.{◌≡◌, ℕ, zero, suc, ◌+◌, ◌-◌, ◌*◌, ◌<◌, ◌==◌, ◌&&◌, ◌||◌, max, Bool, true, false, cond, not, List, ◌∷◌, length, refl, ap, inl, inr, arith}
+use Rattle.std.proofs.Common.{◌≡◌, ℕ, zero, suc, ◌+◌, ◌-◌, ◌*◌, ◌<◌, ◌==◌, ◌&&◌, ◌||◌, max, Bool, true, false, cond, not, List, ◌∷◌, length, refl, ap}
+use Rattle.std.proofs.Common.{inl, inr, arith}
 use Rattle.std.proofs.lemmas.Bool.{cases_Bool, cases_eq, ne_eqb, eq-eqb}
 use Rattle.lists.specs.Sums.{max_below}
 use Rattle.lists.proofs.SumFacts.{sum_same}
@@ -51,7 +52,8 @@ module _ (p q : PolicyMeaning) (m : CutMeaning) (s : SheetParts) (k : PolicyKind
   pub others_same : (a x : ℕ) → others_of p s i a x ≡ others_of q (twin s k) i a x
   unfolding others_of
   others_same a x = sum_same (other_of p s i a x) (other_of q (twin s k) i a x) (length s.tasks)
-      (λ o b. but_itself o i 0 _ _ (λ ne. ap (λ (w : Cap). (task_at s o).cost * capped_count (task_at s o).curve (task_at s o).jitter w x) (same.cap i o a here b ne)))
+      (λ o b. but_itself o i 0 _ _ (λ ne. ap
+      (λ (w : Cap). (task_at s o).cost * capped_count (task_at s o).curve (task_at s o).jitter w x) (same.cap i o a here b ne)))
 
   pub blocking_same : (a : ℕ) → blocking_of p m s i a ≡ blocking_of q m (twin s k) i a
   unfolding blocking_of

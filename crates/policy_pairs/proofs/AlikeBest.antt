@@ -1,5 +1,6 @@
 -- Policies that say the same have the same best certificate.
-use Rattle.std.proofs.Common.{◌≡◌, ℕ, zero, suc, ◌+◌, ◌<◌, ◌≤◌, ◌&&◌, Bool, cond, Option, Some, None, List, [], ◌∷◌, map, length, Result, Ok, Err, refl, ap, ◌∙◌, arith}
+use Rattle.std.proofs.Common.{◌≡◌, ℕ, zero, suc, ◌+◌, ◌<◌, ◌≤◌, ◌&&◌, Bool, cond, Option, Some, None, List, [], ◌∷◌, map, length, Result, Ok, Err}
+use Rattle.std.proofs.Common.{refl, ap, ◌∙◌, arith}
 use Rattle.lists.specs.Firsts.{first_of}
 use Rattle.task_sheet.specs.declared.tasks.PolicyKind.{PolicyKind}
 use Rattle.task_sheet.specs.SheetParts.{SheetParts}
@@ -12,7 +13,8 @@ use Rattle.certificate.specs.Text.{point_of}
 use Rattle.conditions.specs.Conditions.{covers_jitter, is_window, meets_end}
 use Rattle.solver.specs.Points.{points_below}
 use Rattle.solver.specs.declared.analysis.AnalyseRefusal.{AnalyseRefusal}
-use Rattle.solver.specs.Outcome.{least_to, or_zero, meets_each, meets_bound, best_points, best_of_window, with_entry, next_entries, first_entries, as_cert, best_of}
+use Rattle.solver.specs.Outcome.{least_to, or_zero, meets_each, meets_bound, best_points, best_of_window, with_entry, next_entries, first_entries}
+use Rattle.solver.specs.Outcome.{as_cert, best_of}
 use Rattle.policy_pairs.proofs.Alike.{twin, IsAlike, points_same}
 use Rattle.policy_pairs.proofs.AlikeConditions.{is_window_same, meets_end_same, rest_within_same}
 
@@ -37,7 +39,8 @@ module _ (p q : PolicyMeaning) (m : CutMeaning) (sbf : ℕ → ℕ) (s : SheetPa
     best_points_same : (window : ℕ) → best_points p m sbf s i window ≡ best_points q m sbf (twin s k) i window
     unfolding best_points
     best_points_same window =
-        let ends = map_same (λ a. point_of a (or_zero (least_to (meets_end p m sbf s i a) window))) (λ a. point_of a (or_zero (least_to (meets_end q m sbf (twin s k) i a) window)))
+        let ends = map_same (λ a. point_of a (or_zero (least_to (meets_end p m sbf s i a) window)))
+        (λ a. point_of a (or_zero (least_to (meets_end q m sbf (twin s k) i a) window)))
         (λ a. ap (λ (w : Option ℕ). point_of a (or_zero w)) (least_same _ _ window (meets_end_same p q m sbf s k same i here a)))
         (points_below p s i window) in
         ends ∙ ap (map (λ a. point_of a (or_zero (least_to (meets_end q m sbf (twin s k) i a) window)))) (points_same p q m s k same i here window)
@@ -54,11 +57,13 @@ module _ (p q : PolicyMeaning) (m : CutMeaning) (sbf : ℕ → ℕ) (s : SheetPa
         ap (entry_of window points) (least_same _ _ limit (bound_same points)) ∙
         ap (λ (w : List Point). entry_of window w (least_to (meets_bound q m sbf (twin s k) i w) limit)) (best_points_same window)
 
-    with_same : (horizon : ℕ) (entries : List Entry) (window : Option ℕ) → with_entry p m sbf s horizon i entries window ≡ with_entry q m sbf (twin s k) horizon i entries window
+    with_same : (horizon : ℕ) (entries : List Entry) (window : Option ℕ) →
+        with_entry p m sbf s horizon i entries window ≡ with_entry q m sbf (twin s k) horizon i entries window
     with_same horizon entries None = refl
     with_same horizon entries (Some window) = rw (points_same p q m s k same i here window, best_entry_same window) refl
 
-    next_same : (horizon : ℕ) (before : Result (List Entry) AnalyseRefusal) → next_entries p m sbf s horizon i before ≡ next_entries q m sbf (twin s k) horizon i before
+    next_same : (horizon : ℕ) (before : Result (List Entry) AnalyseRefusal) →
+        next_entries p m sbf s horizon i before ≡ next_entries q m sbf (twin s k) horizon i before
     next_same horizon (Err e) = refl
     next_same horizon (Ok entries) =
         with_same horizon entries (least_to (is_window p m sbf s i) horizon) ∙

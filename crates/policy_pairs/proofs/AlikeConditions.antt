@@ -9,7 +9,8 @@ use Rattle.certificate.specs.declared.cert.Entry.{Entry}
 use Rattle.certificate.specs.declared.cert.Cert.{Cert}
 use Rattle.certificate.specs.declared.cert.Point.{Point}
 use Rattle.demand.specs.Demand.{need_of, rest_of, window_need_of}
-use Rattle.conditions.specs.Conditions.{entry_at, is_window, meets_end, rest_within, entry_failed_of, gap_failed_of, point_failed_of, points_failed_of, task_failed_of, tasks_failed_of, failed_of}
+use Rattle.conditions.specs.Conditions.{entry_at, is_window, meets_end, rest_within, entry_failed_of, gap_failed_of, point_failed_of}
+use Rattle.conditions.specs.Conditions.{points_failed_of, task_failed_of, tasks_failed_of, failed_of}
 use Rattle.policy_pairs.proofs.Alike.{twin, IsAlike, need_same, window_need_same, at_same}
 
 first_same : {F : Type 0} (f g : ℕ → Option F) (n : ℕ) → ((k : ℕ) → k < n → f k ≡ g k) → first_below f n ≡ first_below g n
@@ -27,7 +28,8 @@ module _ (p q : PolicyMeaning) (m : CutMeaning) (sbf : ℕ → ℕ) (s : SheetPa
     pub rest_within_same : (a x bound : ℕ) → rest_within p m sbf s i a x bound ≡ rest_within q m sbf (twin s k) i a x bound
     rest_within_same a x bound = rw (need_same p q m s k same i here a x) refl
 
-    entry_same : (deadlines : Bool) (window bound : ℕ) → entry_failed_of p m sbf s deadlines i window bound ≡ entry_failed_of q m sbf (twin s k) deadlines i window bound
+    entry_same : (deadlines : Bool) (window bound : ℕ) →
+        entry_failed_of p m sbf s deadlines i window bound ≡ entry_failed_of q m sbf (twin s k) deadlines i window bound
     entry_same deadlines window bound = rw (is_window_same window) refl
 
     gap_same : (before : Option ℕ) (a : ℕ) → gap_failed_of p s i before a ≡ gap_failed_of q (twin s k) i before a
@@ -41,7 +43,8 @@ module _ (p q : PolicyMeaning) (m : CutMeaning) (sbf : ℕ → ℕ) (s : SheetPa
     points_failed_same : (window bound : ℕ) (before : Option ℕ) (points : List Point) →
         points_failed_of p m sbf s i window bound before points ≡ points_failed_of q m sbf (twin s k) i window bound before points
     points_failed_same window bound before [] = gap_same before window
-    points_failed_same window bound before (x ∷ xs) = rw (point_same window bound before x.offset x.end, points_failed_same window bound (Some x.offset) xs) refl
+    points_failed_same window bound before (x ∷ xs) =
+        rw (point_same window bound before x.offset x.end, points_failed_same window bound (Some x.offset) xs) refl
 
     task_same : (deadlines : Bool) (e : Entry) → task_failed_of p m sbf s deadlines i e ≡ task_failed_of q m sbf (twin s k) deadlines i e
     unfolding task_failed_of
@@ -50,6 +53,7 @@ module _ (p q : PolicyMeaning) (m : CutMeaning) (sbf : ℕ → ℕ) (s : SheetPa
   pub failed_same : (deadlines : Bool) (cert : Cert) → failed_of p m sbf s deadlines cert ≡ failed_of q m sbf (twin s k) deadlines cert
   unfolding failed_of
   failed_same deadlines cert =
-      let each = first_same (λ i. task_failed_of p m sbf s deadlines i (entry_at cert i)) (λ i. task_failed_of q m sbf (twin s k) deadlines i (entry_at cert i)) (length s.tasks)
+      let each = first_same (λ i. task_failed_of p m sbf s deadlines i (entry_at cert i))
+      (λ i. task_failed_of q m sbf (twin s k) deadlines i (entry_at cert i)) (length s.tasks)
       (λ i here. task_same i here deadlines (entry_at cert i)) in
       rw each refl

@@ -1,5 +1,6 @@
 -- The pairs of policies that say the same of some sheets.
-use Rattle.std.proofs.Common.{◌≡◌, ◌≢◌, ℕ, ℤ, ◌+◌, ◌<◌, ◌≤◌, ◌&&◌, nat_le, nat_lt, Bool, true, false, cond, length, refl, sym, ap, subst, ◌∙◌, inl, inr, arith, pos, ◌+ℤ◌, ◌-ℤ◌, int_lt}
+use Rattle.std.proofs.Common.{◌≡◌, ◌≢◌, ℕ, ℤ, ◌+◌, ◌<◌, ◌≤◌, ◌&&◌, nat_le, nat_lt, Bool, true, false, cond, length, refl, sym, ap, subst, ◌∙◌, inl}
+use Rattle.std.proofs.Common.{inr, arith, pos, ◌+ℤ◌, ◌-ℤ◌, int_lt}
 use Rattle.std.proofs.lemmas.Int.{ints}
 use Rattle.std.proofs.lemmas.Bool.{cases_Bool, cases_order, le-leb, lt-ltb, ltb-true}
 use Rattle.std.proofs.lemmas.Bool.Decides.{nat_tests}
@@ -15,7 +16,8 @@ use Rattle.policy_more.specs.PointPolicies.{gel_meaning, elf_meaning, by_priorit
 use Rattle.policy_more.specs.Meanings.{meaning_of}
 use Rattle.policy_more.specs.Lawful.{above, level, below}
 use Rattle.preemption.specs.CutMeaning.{CutMeaning}
-use Rattle.policy_pairs.specs.Pairs.{DifferInPolicy, AreJudgedAlike, PointsAreDeadlines, HaveOnePoint, HaveOnePriority, HaveDistinctPriorities, GelIsEdf, GelIsFifo, ElfIsGel, ElfIsFp}
+use Rattle.policy_pairs.specs.Pairs.{DifferInPolicy, AreJudgedAlike, PointsAreDeadlines, HaveOnePoint, HaveOnePriority, HaveDistinctPriorities}
+use Rattle.policy_pairs.specs.Pairs.{GelIsEdf, GelIsFifo, ElfIsGel, ElfIsFp}
 use Rattle.policy_pairs.proofs.Alike.{twin, IsAlike}
 use Rattle.policy_pairs.proofs.AlikeConditions.{failed_same}
 use Rattle.policy_pairs.proofs.AlikeBest.{best_same}
@@ -24,8 +26,10 @@ use Rattle.policy_pairs.proofs.AlikeBest.{best_same}
 judged_alike : (m : CutMeaning) (sbf : ℕ → ℕ) (one other : PolicyKind) (s t : SheetParts) → DifferInPolicy one other s t →
     IsAlike (meaning_of one) (meaning_of other) s (twin s other) → AreJudgedAlike m sbf s t
 judged_alike m sbf one other s t differ same =
-    let first : IsAlike (meaning_of s.policy) (meaning_of other) s (twin s other) = subst (λ (w : PolicyKind). IsAlike (meaning_of w) (meaning_of other) s (twin s other)) (sym differ.first) same in
-    let alike : IsAlike (meaning_of s.policy) (meaning_of t.policy) s (twin s t.policy) = subst (λ (w : PolicyKind). IsAlike (meaning_of s.policy) (meaning_of w) s (twin s w)) (sym differ.second) first in
+    let first : IsAlike (meaning_of s.policy) (meaning_of other) s (twin s other) =
+    subst (λ (w : PolicyKind). IsAlike (meaning_of w) (meaning_of other) s (twin s other)) (sym differ.first) same in
+    let alike : IsAlike (meaning_of s.policy) (meaning_of t.policy) s (twin s t.policy) =
+    subst (λ (w : PolicyKind). IsAlike (meaning_of s.policy) (meaning_of w) s (twin s w)) (sym differ.second) first in
     let twins : AreJudgedAlike m sbf s (twin s t.policy) = record {
       failed = failed_same (meaning_of s.policy) (meaning_of t.policy) m sbf s t.policy alike;
       best = best_same (meaning_of s.policy) (meaning_of t.policy) m sbf s t.policy alike;
@@ -38,10 +42,12 @@ same_test true c there back = sym (there refl)
 same_test false true there back = back refl
 same_test false false there back = refl
 
-cap_by_deadlines : (a jitter own other : ℕ) (u v : ℤ) → u ≡ pos own → v ≡ pos other → ((pos (a + 1 + jitter) +ℤ u) -ℤ v) ≡ (pos (a + 1 + own + jitter) -ℤ pos other)
+cap_by_deadlines : (a jitter own other : ℕ) (u v : ℤ) → u ≡ pos own → v ≡ pos other →
+    ((pos (a + 1 + jitter) +ℤ u) -ℤ v) ≡ (pos (a + 1 + own + jitter) -ℤ pos other)
 cap_by_deadlines a jitter own other u v e f = omega (arith, ints)
 
-block_by_deadlines : (a jitter own other : ℕ) (u v : ℤ) → u ≡ pos own → v ≡ pos other → int_lt (u +ℤ pos a) (v +ℤ pos jitter) ≡ nat_lt (own + a) (other + jitter)
+block_by_deadlines : (a jitter own other : ℕ) (u v : ℤ) → u ≡ pos own → v ≡ pos other →
+    int_lt (u +ℤ pos a) (v +ℤ pos jitter) ≡ nat_lt (own + a) (other + jitter)
 block_by_deadlines a jitter own other u v e f = same_test _ _ (λ h. lt-ltb _ _ (grind (arith, ints))) (λ h. grind (arith, ints, nat_tests))
 
 delay_by_deadlines : (jitter own other : ℕ) (u v : ℤ) → u ≡ pos own → v ≡ pos other → int_lt u (v +ℤ pos jitter) ≡ nat_lt own (other + jitter)
@@ -50,10 +56,13 @@ delay_by_deadlines jitter own other u v e f = same_test _ _ (λ h. lt-ltb _ _ (g
 pub gel_edf : (m : CutMeaning) (sbf : ℕ → ℕ) → GelIsEdf m sbf
 gel_edf m sbf s t differ deadlines = judged_alike m sbf Gel Edf s t differ (record {
   class = λ i o b c. refl;
-  cap = λ i o a b c ne. ap At (cap_by_deadlines a (task_at s o).jitter (task_at s i).deadline (task_at s o).deadline (task_at s i).point (task_at s o).point (deadlines i b) (deadlines o c));
-  may_block = λ i o a b c ne. block_by_deadlines a (task_at s i).jitter (task_at s i).deadline (task_at s o).deadline (task_at s i).point (task_at s o).point (deadlines i b) (deadlines o c);
+  cap = λ i o a b c ne. ap At (cap_by_deadlines a (task_at s o).jitter (task_at s i).deadline (task_at s o).deadline
+      (task_at s i).point (task_at s o).point (deadlines i b) (deadlines o c));
+  may_block = λ i o a b c ne. block_by_deadlines a (task_at s i).jitter (task_at s i).deadline (task_at s o).deadline
+      (task_at s i).point (task_at s o).point (deadlines i b) (deadlines o c);
   may_delay = λ i o b c ne. ap (λ (w : Bool). w && nat_lt 0 ((task_at s i).jitter + (task_at s o).jitter))
-      (delay_by_deadlines (task_at s i).jitter (task_at s i).deadline (task_at s o).deadline (task_at s i).point (task_at s o).point (deadlines i b) (deadlines o c));
+      (delay_by_deadlines (task_at s i).jitter (task_at s i).deadline (task_at s o).deadline (task_at s i).point
+      (task_at s o).point (deadlines i b) (deadlines o c));
 })
 
 cap_by_arrivals : (n : ℕ) (u v : ℤ) → u ≡ v → ((pos n +ℤ u) -ℤ v) ≡ pos n

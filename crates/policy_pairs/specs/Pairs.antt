@@ -19,7 +19,8 @@ pub record DifferInPolicy (one other : PolicyKind) (s t : SheetParts) : Type 0 w
 
 -- the same condition fails first of every certificate, or none, and the best certificate is the same, or why there is none
 pub record AreJudgedAlike (m : CutMeaning) (sbf : ℕ → ℕ) (s t : SheetParts) : Type 0 where
-  pub failed : (deadlines : Bool) (cert : Cert) → failed_of (meaning_of s.policy) m sbf s deadlines cert ≡ failed_of (meaning_of t.policy) m sbf t deadlines cert
+  pub failed : (deadlines : Bool) (cert : Cert) →
+      failed_of (meaning_of s.policy) m sbf s deadlines cert ≡ failed_of (meaning_of t.policy) m sbf t deadlines cert
   pub best : (horizon : ℕ) → best_of (meaning_of s.policy) m sbf s horizon ≡ best_of (meaning_of t.policy) m sbf t horizon
 
 -- each task's point is its deadline

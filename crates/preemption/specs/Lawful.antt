@@ -13,8 +13,10 @@ use Rattle.task_sheet.specs.Rules.{is_in_range, last_number}
 use Rattle.task_sheet.specs.Sheets.{CutFits, IsTask}
 use Rattle.preemption.specs.Cuts.{is_prefix_sum, greatest, each_within, are_lengths_within, cuttable_by, longest_by, threshold_by, segments_fit}
 use Rattle.preemption.specs.CutLaws.{IsLawfulCut, IsTabledCut}
-use Rattle.preemption.specs.Kinds.{is_full, is_never, is_fixed, is_floating, segments_of, bound_of, by_cut, full_meaning, never_meaning, fixed_meaning, floating_meaning, per_task_meaning}
-use Rattle.preemption.specs.Segments.{HasNextSum, or_left, or_right, prefix_zero, next_sum, last_within, prefix_leaves_last, greatest_within, greatest_all, greatest_sum, greatest_some, last_some}
+use Rattle.preemption.specs.Kinds.{is_full, is_never, is_fixed, is_floating, segments_of, bound_of, by_cut, full_meaning, never_meaning}
+use Rattle.preemption.specs.Kinds.{fixed_meaning, floating_meaning, per_task_meaning}
+use Rattle.preemption.specs.Segments.{HasNextSum, or_left, or_right, prefix_zero, next_sum, last_within, prefix_leaves_last, greatest_within}
+use Rattle.preemption.specs.Segments.{greatest_all, greatest_sum, greatest_some, last_some}
 
 -- a job whose cost and segments fit a cut
 record Fitting (cut : Cut) (cost : ℕ) (j : Job) : Type 0 where
@@ -42,7 +44,8 @@ record IsLawfulBy (cut : Cut) (cost : ℕ) : Type 0 where
 uncut_inside : (s cost : ℕ) → 1 ≤ s → s < cost → ((s == 0) || leb cost s) ≡ false
 uncut_inside s cost h l = grind (arith, nat_tests)
 
-next_inside : (j : Job) (s most : ℕ) → sum j.segs ≡ j.cost → greatest j.segs ≤ most → (is_prefix_sum j.segs s || leb j.cost s) ≡ true → s < j.cost → HasNextSum j.segs s most
+next_inside : (j : Job) (s most : ℕ) → sum j.segs ≡ j.cost → greatest j.segs ≤ most →
+    (is_prefix_sum j.segs s || leb j.cost s) ≡ true → s < j.cost → HasNextSum j.segs s most
 next_inside j s most whole g c h = elim (or_cases (is_prefix_sum j.segs s) (leb j.cost s) c) [
   | inr over ↦ absurd (omega (arith, leb-true j.cost s over))
   | inl cut ↦ next_sum j.segs s most cut (omega (arith, whole)) g
@@ -93,7 +96,13 @@ never_by cost low = record {
   threshold_bound = low;
   cut_first = λ j f. refl;
   cut_last = λ j s f h. or_right (s == 0) (leb j.cost s) (le-leb j.cost s h);
-  cut_next = λ j s f c h. record { at = j.cost; later = h; near = omega (arith, f.high); there = or_right (j.cost == 0) (leb j.cost j.cost) (le-leb j.cost j.cost (omega arith)) };
+  cut_next = λ j s f c h. record {
+    at = j.cost;
+    later = h;
+    near = omega (arith, f.high);
+    there =
+        or_right (j.cost == 0) (leb j.cost j.cost) (le-leb j.cost j.cost (omega arith));
+  };
   last_part = λ j s f h l. uncut_inside s j.cost h l;
 }
 

@@ -70,7 +70,8 @@ last_within before [] = omega arith
 last_within before (y ∷ ys) = omega (arith, last_within y ys, sum_more y ys)
 
 -- a cut is the end, or leaves at least the last segment
-pub prefix_leaves_last : (before : ℕ) (xs ys : List ℕ) (s : ℕ) → each_within xs ys ≡ true → is_prefix_sum xs s ≡ true → (s ≡ sum xs) ⊎ (s + last_number before ys ≤ sum ys)
+pub prefix_leaves_last : (before : ℕ) (xs ys : List ℕ) (s : ℕ) → each_within xs ys ≡ true → is_prefix_sum xs s ≡ true →
+    (s ≡ sum xs) ⊎ (s + last_number before ys ≤ sum ys)
 prefix_leaves_last before [] [] s w h = inl (eqb-true s 0 h)
 prefix_leaves_last before [] (y ∷ ys) s w h = absurd (cc)
 prefix_leaves_last before (x ∷ xs) [] s w h = absurd (cc)

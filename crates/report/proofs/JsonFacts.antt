@@ -25,7 +25,8 @@ row r = rw (truth (is_met r)) refl
 one_more : (r : Row) (rs : List Row) → items_text true (items_of (map row_data rs)) ≡ more_rows_text rs ++ codes "]" →
     compact_text (row_data r) ++ items_text true (items_of (map row_data rs)) ≡ (row_text r ++ more_rows_text rs) ++ codes "]"
 one_more r rs more =
-    ap (λ (t : List ℕ). t ++ items_text true (items_of (map row_data rs))) (row r) ∙ ap (λ (t : List ℕ). row_text r ++ t) more ∙ sym (append_assoc (row_text r) (more_rows_text rs) (codes "]"))
+    ap (λ (t : List ℕ). t ++ items_text true (items_of (map row_data rs))) (row r) ∙ ap (λ (t : List ℕ). row_text r ++ t) more ∙
+    sym (append_assoc (row_text r) (more_rows_text rs) (codes "]"))
 
 more_rows : (rs : List Row) → items_text true (items_of (map row_data rs)) ≡ more_rows_text rs ++ codes "]"
 more_rows [] = refl
@@ -45,14 +46,17 @@ no_float sheet cert = rw (no_floats (rows_of sheet cert)) refl
 closed : (inner : List ℕ) → ((inner ++ codes "]") ++ codes "}") ++ codes "\n" ≡ inner ++ codes "]}\n"
 closed inner = append_assoc (inner ++ codes "]") (codes "}") (codes "\n") ∙ append_assoc inner (codes "]") (codes "}\n")
 
-joined : (missed : ℕ) (middle inner : List ℕ) → (decimal missed ++ (middle ++ ((inner ++ codes "]") ++ codes "}"))) ++ codes "\n" ≡ decimal missed ++ (middle ++ (inner ++ codes "]}\n"))
+joined : (missed : ℕ) (middle inner : List ℕ) →
+    (decimal missed ++ (middle ++ ((inner ++ codes "]") ++ codes "}"))) ++ codes "\n" ≡ decimal missed ++ (middle ++ (inner ++ codes "]}\n"))
 joined missed middle inner =
     append_assoc (decimal missed) (middle ++ ((inner ++ codes "]") ++ codes "}")) (codes "\n")
-    ∙ ap (λ (t : List ℕ). decimal missed ++ t) (append_assoc middle ((inner ++ codes "]") ++ codes "}") (codes "\n") ∙ ap (λ (t : List ℕ). middle ++ t) (closed inner))
+    ∙ ap (λ (t : List ℕ). decimal missed ++ t) (append_assoc middle ((inner ++ codes "]") ++ codes "}") (codes "\n") ∙
+    ap (λ (t : List ℕ). middle ++ t) (closed inner))
 
 -- the object of a report, with the text of its tasks
 object_text : (missed : ℕ) (p : PolicyKind) (tasks : Items) (inner : List ℕ) → items_text false tasks ≡ inner ++ codes "]" →
-    compact_text (object (member (codes "missed") (number (unsigned missed)) (member (codes "policy") (string (policy_word p)) (member (codes "tasks") (array tasks) no_members)))) ++ codes "\n"
+    compact_text (object (member (codes "missed") (number (unsigned missed))
+    (member (codes "policy") (string (policy_word p)) (member (codes "tasks") (array tasks) no_members)))) ++ codes "\n"
     ≡ codes "{\"missed\":" ++ (decimal missed ++ (codes ",\"policy\":\"" ++ (policy_word p ++ (codes "\",\"tasks\":[" ++ (inner ++ codes "]}\n")))))
 unfolding serde_json_on_literals
 object_text missed Fp tasks inner h = rw h (ap (λ (t : List ℕ). codes "{\"missed\":" ++ t) (joined missed (codes ",\"policy\":\"fp\",\"tasks\":[") inner))

@@ -1,5 +1,6 @@
 -- What a format's options write, as columns.
-use Rattle.std.proofs.Common.{◌≡◌, ℕ, zero, suc, ◌-◌, ◌^◌, ◌<◌, ◌≤◌, ◌==◌, true, false, Bool, List, [], ◌∷◌, ◌++◌, cond, length, replicate, take, inl, inr, arith, lit<, refl, append-nil, ap, ◌∙◌}
+use Rattle.std.proofs.Common.{◌≡◌, ℕ, zero, suc, ◌-◌, ◌^◌, ◌<◌, ◌≤◌, ◌==◌, true, false, Bool, List, [], ◌∷◌, ◌++◌, cond, length, replicate, take, inl}
+use Rattle.std.proofs.Common.{inr, arith, lit<, refl, append-nil, ap, ◌∙◌}
 use Rattle.std.proofs.Math.Nat.{sub-zero, sub_self}
 use Rattle.std.specs.List.{list_all, repeat}
 use Rattle.std.specs.Fmt.{decimal, is_char_start, char_count, take_chars, padded, padded_integral, format_spec, styled_text, styled_decimal}
@@ -76,7 +77,8 @@ some_marks (suc m) = some_marks m
 pub bar_column : (m : ℕ) (bs : List ℕ) → m ≤ 20 → bs ≡ take m (replicate 20 35) → styled_text (format_spec 46 1 0 20 (2 ^ 64 - 1)) bs ≡ bar_of m
 bar_column m bs few cut =
     let marks : bs ≡ replicate m 35 = cut ∙ take-replicate m 20 35 few in
-    rw marks (left_column 20 46 (replicate m 35) (lit< tt) (omega (arith, length-replicate {A = ℕ} m 35)) (lit< tt) (some_marks m) ∙ rw (length-replicate {A = ℕ} m 35) refl)
+    rw marks (left_column 20 46 (replicate m 35) (lit< tt) (omega (arith, length-replicate {A = ℕ} m 35)) (lit< tt)
+    (some_marks m) ∙ rw (length-replicate {A = ℕ} m 35) refl)
 
 pub name_length : (bs : List ℕ) → is_name bs ≡ true → length bs < 2 ^ 63
 name_length bs h = omega (arith, leb-true (length bs) 32 (and_parts _ _ (and_parts _ _ h).0).1)

@@ -37,7 +37,8 @@ json_report_of sheet cert =
 -- a task as a JSON value
 abbrev pub row_data : Row → Data
 row_data row =
-    object (member (codes "bound") (number (unsigned row.1.bound)) (member (codes "cost") (number (unsigned row.0.cost)) (member (codes "deadline") (number (unsigned row.0.deadline))
+    object (member (codes "bound") (number (unsigned row.1.bound))
+    (member (codes "cost") (number (unsigned row.0.cost)) (member (codes "deadline") (number (unsigned row.0.deadline))
     (member (codes "met") (boolean (is_met row)) (member (codes "name") (string row.0.name) (member (codes "points") (number (unsigned (length row.1.points)))
     (member (codes "window") (number (unsigned row.1.window)) no_members)))))))
 

@@ -48,7 +48,8 @@ bar_of marks = replicate marks 35 ++ replicate (20 - marks) 46
 -- the line of a task
 unfoldable pub row_line : Row → List ℕ
 row_line row =
-    line_of row.0.name (decimal row.0.cost) (decimal row.0.deadline) (decimal row.1.bound) (decimal row.1.window) (decimal (length row.1.points)) (result_word row)
+    line_of row.0.name (decimal row.0.cost) (decimal row.0.deadline) (decimal row.1.bound) (decimal row.1.window)
+    (decimal (length row.1.points)) (result_word row)
     (bar_of (marks_of row.1.bound row.0.deadline))
 
 -- tasks N missed M

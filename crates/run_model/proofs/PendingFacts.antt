@@ -21,4 +21,5 @@ undone c s h = grind (arith, nat_tests)
 pub pending_to : (run : Run) (k t : ℕ) → IsPending run k t → is_pending run k t ≡ true
 pending_to run k t p =
     and_from (ltb k (length run.jobs)) (leb (job_at run k).release t && not (is_done run k t)) (lt-ltb k (length run.jobs) p.listed)
-    (and_from (leb (job_at run k).release t) (not (is_done run k t)) (le-leb (job_at run k).release t p.released) (not_from_false (is_done run k t) (undone (job_at run k).cost (service_of run k t) p.not_done)))
+    (and_from (leb (job_at run k).release t) (not (is_done run k t)) (le-leb (job_at run k).release t p.released)
+    (not_from_false (is_done run k t) (undone (job_at run k).cost (service_of run k t) p.not_done)))

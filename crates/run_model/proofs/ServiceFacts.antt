@@ -1,4 +1,5 @@
-use Rattle.std.proofs.Common.{◌≡◌, ℕ, zero, suc, ◌+◌, ◌-◌, ◌<◌, ◌≤◌, ◌≢◌, ◌⊎◌, Bool, true, cond, length, get_or, drop, refl, ◌∙◌, ap, inl, inr, arith, add-suc, add-zero, eq-eqb, length-drop, get_or-drop}
+use Rattle.std.proofs.Common.{◌≡◌, ℕ, zero, suc, ◌+◌, ◌-◌, ◌<◌, ◌≤◌, ◌≢◌, ◌⊎◌, Bool, true, cond, length, get_or, drop, refl, ◌∙◌, ap, inl, inr, arith}
+use Rattle.std.proofs.Common.{add-suc, add-zero, eq-eqb, length-drop, get_or-drop}
 use Rattle.std.proofs.lemmas.Bool.{cases_Bool, eqb-true}
 use Rattle.std.proofs.lemmas.Grind.{common_steps}
 use Rattle.lists.proofs.SumFacts.{count_more}
@@ -19,7 +20,8 @@ pub ticks_in_none : (test : Tick → Bool) (run : Run) (t : ℕ) → ticks_in te
 unfolding ticks_in
 ticks_in_none test run t = grind (arith, common_steps)
 
-pub ticks_in_more : (test : Tick → Bool) (run : Run) (t d : ℕ) → t + d < length run.ticks → ticks_in test run t (suc d) ≡ ticks_in test run t d + cond (test (tick_at run (t + d))) 1 0
+pub ticks_in_more : (test : Tick → Bool) (run : Run) (t d : ℕ) → t + d < length run.ticks →
+    ticks_in test run t (suc d) ≡ ticks_in test run t d + cond (test (tick_at run (t + d))) 1 0
 unfolding ticks_in
 ticks_in_more test run t d h =
     let e : get_or (drop t run.ticks) d Off ≡ get_or run.ticks (t + d) Off = get_or-drop t run.ticks d Off in
@@ -85,7 +87,13 @@ ticks_in_split test run s zero h = rw add-zero (omega (arith, ticks_in_none test
 ticks_in_split test run s (suc d) h =
     let e : 0 + (s + d) ≡ s + d = omega arith in
     let more = ticks_in_more test run 0 (s + d) (omega arith) in
-    rw add-suc (omega (arith, ticks_in_split test run s d (omega arith), more, ticks_in_more test run s d (omega arith), ap (λ (w : ℕ). cond {A = ℕ} (test (tick_at run w)) 1 0) e))
+    rw add-suc (omega (
+      arith,
+      ticks_in_split test run s d (omega arith),
+      more,
+      ticks_in_more test run s d (omega arith),
+      ap (λ (w : ℕ). cond {A = ℕ} (test (tick_at run w)) 1 0) e,
+    ))
 
 -- every tick that runs a job runs one that is pending
 pub record RunsPending (run : Run) : Type 0 where

@@ -1,5 +1,6 @@
 -- With which bytes a line that may come begins.
-use Rattle.std.proofs.Common.{◌≡◌, ℕ, suc, ◌-◌, ◌<◌, ◌≤◌, ◌⊎◌, ◌==◌, false, cond, List, [], ◌∷◌, ◌++◌, length, codes, refl, sym, ap, subst, ◌∙◌, arith, Option, Some, None, inl, inr}
+use Rattle.std.proofs.Common.{◌≡◌, ℕ, suc, ◌-◌, ◌<◌, ◌≤◌, ◌⊎◌, ◌==◌, false, cond, List, [], ◌∷◌, ◌++◌, length, codes, refl, sym, ap, subst, ◌∙◌}
+use Rattle.std.proofs.Common.{arith, Option, Some, None, inl, inr}
 use Rattle.std.specs.Prelude.{replicate}
 use Rattle.std.specs.Option.{option_map, option_and_then}
 use Rattle.std.proofs.lemmas.Bool.{cases_Bool, cases_eq}
@@ -16,7 +17,9 @@ use Rattle.run_text.specs.Words.{is_text, words_of}
 use Rattle.run_text.specs.Lines.{version_of, make_job, counts_of, job_of, stretch_of}
 use Rattle.run_text.specs.Parts.{Part, part, before_jobs, is_repeated, with_stretch, after_at, after_line, IsSmall}
 use Rattle.run_text.proofs.WordFacts.{text_is, is_text-self, words_of-same}
-use Rattle.run_text.proofs.LineFacts.{all_by_recursion, all_again, version_of-head, version_back, IsJobIn, counts_front, counts_front-words, counts_of-front, counts_back, stretch_front, stretch_front-words, stretch_of-front, stretch_back, job_front, job_front-words, job_of-front, job_back}
+use Rattle.run_text.proofs.LineFacts.{all_by_recursion, all_again, version_of-head, version_back, IsJobIn, counts_front, counts_front-words}
+use Rattle.run_text.proofs.LineFacts.{counts_of-front, counts_back, stretch_front, stretch_front-words, stretch_of-front, stretch_back, job_front}
+use Rattle.run_text.proofs.LineFacts.{job_front-words, job_of-front, job_back}
 use Rattle.run_text.proofs.SearchFacts.{some_below, IsSmallList, some_list, begins_or_not}
 
 -- some line that may come begins so
@@ -37,7 +40,12 @@ has_front_or_not line w = elim (begins_or_not w line) [
 -- the next line is this one
 next_text : (p q : Part) (text w : List ℕ) → ((line : List ℕ) → after_line p line ≡ cond (is_text line text) (Some q) None) → NextLine p w ⊎ (NextLine p w → ⊥)
 next_text p q text w after = elim (has_front_or_not text w) [
-  | inl b ↦ inl (record { more = b.0; next = q; goes = after (w ++ b.0) ∙ ap (λ (l : List ℕ). cond (is_text l text) (Some q) None) (sym b.1) ∙ rw (is_text-self text) refl })
+  | inl b ↦ inl (record {
+    more = b.0;
+    next = q;
+    goes = after (w ++ b.0) ∙ ap (λ (l : List ℕ). cond (is_text l text) (Some q) None)
+        (sym b.1) ∙ rw (is_text-self text) refl;
+  })
   | inr out ↦ inr (λ n. elim (cases_Bool (is_text (w ++ n.more) text)) [
     | inl h ↦ out (n.more, sym (text_is (w ++ n.more) text h))
     | inr h ↦ absurd (let none : after_line p (w ++ n.more) ≡ None = after (w ++ n.more) ∙ rw h refl in let some = n.goes in cc)
@@ -62,7 +70,8 @@ some_version w = elim (has_front_or_not (head_of First) w) [
   ]
 ]
 
-head_line_from : (js : List Job) (xs : List Tick) (w more : List ℕ) (q : Part) (o : Option Version) → version_of (w ++ more) ≡ o → option_map (λ v. part (Counts v) js xs) o ≡ Some q → SomeVersion w
+head_line_from : (js : List Job) (xs : List Tick) (w more : List ℕ) (q : Part) (o : Option Version) → version_of (w ++ more) ≡ o →
+    option_map (λ v. part (Counts v) js xs) o ≡ Some q → SomeVersion w
 head_line_from js xs w more q None is e = absurd (cc)
 head_line_from js xs w more q (Some v) is e = record { version = v; front = (more, sym (version_back (w ++ more) v is)) }
 
@@ -95,11 +104,13 @@ some_counts w =
       | inr none ↦ inr (λ s. none s.jobs (omega (arith, s.few_jobs)) (s.ticks, omega (arith, s.few_ticks), s.front))
     ]
 
-counts_line_from : (v : Version) (js : List Job) (xs : List Tick) (w : List ℕ) (more : List ℕ) (q : Part) (o : Option (ℕ × ℕ)) → counts_of (w ++ more) ≡ o → option_map (λ n. part (before_jobs v n.0 1000000 n.1) js xs) o ≡ Some q → SomeCounts w
+counts_line_from : (v : Version) (js : List Job) (xs : List Tick) (w : List ℕ) (more : List ℕ) (q : Part) (o : Option (ℕ × ℕ)) →
+    counts_of (w ++ more) ≡ o → option_map (λ n. part (before_jobs v n.0 1000000 n.1) js xs) o ≡ Some q → SomeCounts w
 counts_line_from v js xs w more q None is e = absurd (cc)
 counts_line_from v js xs w more q (Some (j, t)) is e =
     let read = counts_back (words_of (w ++ more)) j t is in
-    let front : w ++ more ≡ counts_front j t = words_of-same (w ++ more) (counts_front j t) (read.0 ∙ sym (counts_front-words j t (omega (arith, read.1)) (omega (arith, read.2)))) in
+    let front : w ++ more ≡ counts_front j t =
+    words_of-same (w ++ more) (counts_front j t) (read.0 ∙ sym (counts_front-words j t (omega (arith, read.1)) (omega (arith, read.2)))) in
     record { jobs = j; ticks = t; few_jobs = read.1; few_ticks = read.2; front = (more, sym front) }
 
 next_counts : (v : Version) (js : List Job) (xs : List Tick) (w : List ℕ) → NextLine (part (Counts v) js xs) w ⊎ (NextLine (part (Counts v) js xs) w → ⊥)
@@ -107,7 +118,8 @@ next_counts v js xs w = elim (some_counts w) [
   | inl s ↦ inl (record {
     more = s.front.0;
     next = part (before_jobs v s.jobs 1000000 s.ticks) js xs;
-    goes = ap (λ (l : List ℕ). after_at (Counts v) js xs l) (sym s.front.1) ∙ ap (option_map (λ (n : ℕ × ℕ). part (before_jobs v n.0 1000000 n.1) js xs)) (counts_of-front s.jobs s.ticks s.few_jobs s.few_ticks);
+    goes = ap (λ (l : List ℕ). after_at (Counts v) js xs l) (sym s.front.1) ∙
+        ap (option_map (λ (n : ℕ × ℕ). part (before_jobs v n.0 1000000 n.1) js xs)) (counts_of-front s.jobs s.ticks s.few_jobs s.few_ticks);
   })
   | inr none ↦ inr (λ n. none (counts_line_from v js xs w n.more n.next (counts_of (w ++ n.more)) refl n.goes))
 ]
@@ -120,7 +132,8 @@ record SomeJob (version : Version) (room : ℕ) (w : List ℕ) : Type 0 where
   front : HasFront (job_front version job) w
 
 abbrev WithSegments : Version → ℕ → List ℕ → ℕ → ℕ → ℕ → ℕ → Type 0
-WithSegments version room w task arrival release cost = (segs : List ℕ) × IsSmallList greatest_number room segs × HasFront (job_front version (make_job task arrival release cost segs)) w
+WithSegments version room w task arrival release cost = (segs : List ℕ) × IsSmallList greatest_number room segs × HasFront
+    (job_front version (make_job task arrival release cost segs)) w
 
 abbrev WithCost : Version → ℕ → List ℕ → ℕ → ℕ → ℕ → Type 0
 WithCost version room w task arrival release = (cost : ℕ) × (cost < 1000000001) × WithSegments version room w task arrival release cost
@@ -135,7 +148,8 @@ WithRelease version room w task arrival = (release : ℕ) × (release < 20000000
 abbrev WithArrival : Version → ℕ → List ℕ → ℕ → Type 0
 WithArrival version room w task = (arrival : ℕ) × (arrival < 1000000001) × WithRelease version room w task arrival
 
-some_segments : (version : Version) (room : ℕ) (w : List ℕ) (task arrival release cost : ℕ) → WithSegments version room w task arrival release cost ⊎ (WithSegments version room w task arrival release cost → ⊥)
+some_segments : (version : Version) (room : ℕ) (w : List ℕ) (task arrival release cost : ℕ) →
+    WithSegments version room w task arrival release cost ⊎ (WithSegments version room w task arrival release cost → ⊥)
 some_segments version room w task arrival release cost =
     let front : List ℕ → List ℕ = λ segs. job_front version (make_job task arrival release cost segs) in
     elim (some_list greatest_number room (λ segs. HasFront (front segs) w) (λ segs. has_front_or_not (front segs) w)) [
@@ -143,20 +157,24 @@ some_segments version room w task arrival release cost =
       | inr none ↦ inr (λ s. none s.0 s.1 s.2)
     ]
 
-some_cost : (version : Version) (room : ℕ) (w : List ℕ) (task arrival release : ℕ) → WithCost version room w task arrival release ⊎ (WithCost version room w task arrival release → ⊥)
-some_cost version room w task arrival release = elim (some_below (WithSegments version room w task arrival release) (some_segments version room w task arrival release) 1000000001) [
-  | inl s ↦ inl s
-  | inr none ↦ inr (λ s. none s.0 s.1 s.2)
-]
+some_cost : (version : Version) (room : ℕ) (w : List ℕ) (task arrival release : ℕ) →
+    WithCost version room w task arrival release ⊎ (WithCost version room w task arrival release → ⊥)
+some_cost version room w task arrival release =
+    elim (some_below (WithSegments version room w task arrival release) (some_segments version room w task arrival release) 1000000001) [
+      | inl s ↦ inl s
+      | inr none ↦ inr (λ s. none s.0 s.1 s.2)
+    ]
 
-told_or_not : (version : Version) (task arrival release : ℕ) → Tells version (make_job task arrival release 0 []) ⊎ (Tells version (make_job task arrival release 0 []) → ⊥)
+told_or_not : (version : Version) (task arrival release : ℕ) →
+    Tells version (make_job task arrival release 0 []) ⊎ (Tells version (make_job task arrival release 0 []) → ⊥)
 told_or_not First task arrival release = elim (cases_eq release arrival) [
   | inl same ↦ inl (λ e. same)
   | inr other ↦ inr (λ told. other (told refl))
 ]
 told_or_not Second task arrival release = inl (λ e. absurd (cc))
 
-some_told_cost : (version : Version) (room : ℕ) (w : List ℕ) (task arrival release : ℕ) → WithToldCost version room w task arrival release ⊎ (WithToldCost version room w task arrival release → ⊥)
+some_told_cost : (version : Version) (room : ℕ) (w : List ℕ) (task arrival release : ℕ) →
+    WithToldCost version room w task arrival release ⊎ (WithToldCost version room w task arrival release → ⊥)
 some_told_cost version room w task arrival release = elim (told_or_not version task arrival release) [
   | inl told ↦ elim (some_cost version room w task arrival release) [
     | inl s ↦ inl (told, s)
@@ -165,11 +183,13 @@ some_told_cost version room w task arrival release = elim (told_or_not version t
   | inr untold ↦ inr (λ s. untold s.0)
 ]
 
-some_release : (version : Version) (room : ℕ) (w : List ℕ) (task arrival : ℕ) → WithRelease version room w task arrival ⊎ (WithRelease version room w task arrival → ⊥)
-some_release version room w task arrival = elim (some_below (WithToldCost version room w task arrival) (some_told_cost version room w task arrival) 2000000001) [
-  | inl s ↦ inl s
-  | inr none ↦ inr (λ s. none s.0 s.1 s.2)
-]
+some_release : (version : Version) (room : ℕ) (w : List ℕ) (task arrival : ℕ) →
+    WithRelease version room w task arrival ⊎ (WithRelease version room w task arrival → ⊥)
+some_release version room w task arrival =
+    elim (some_below (WithToldCost version room w task arrival) (some_told_cost version room w task arrival) 2000000001) [
+      | inl s ↦ inl s
+      | inr none ↦ inr (λ s. none s.0 s.1 s.2)
+    ]
 
 some_arrival : (version : Version) (room : ℕ) (w : List ℕ) (task : ℕ) → WithArrival version room w task ⊎ (WithArrival version room w task → ⊥)
 some_arrival version room w task = elim (some_below (WithRelease version room w task) (some_release version room w task) 1000000001) [
@@ -220,12 +240,14 @@ job_line_from v js xs after room t w more q (Some j) is e =
     let front : w ++ more ≡ job_front v j = words_of-same (w ++ more) (job_front v j) (read.words ∙ sym (job_front-words v j read.job.job)) in
     record { job = j; is = read.job; few = read.few; front = (more, sym front) }
 
-next_job : (v : Version) (js : List Job) (xs : List Tick) (after room t : ℕ) (w : List ℕ) → NextLine (part (Jobs v after room t) js xs) w ⊎ (NextLine (part (Jobs v after room t) js xs) w → ⊥)
+next_job : (v : Version) (js : List Job) (xs : List Tick) (after room t : ℕ) (w : List ℕ) →
+    NextLine (part (Jobs v after room t) js xs) w ⊎ (NextLine (part (Jobs v after room t) js xs) w → ⊥)
 next_job v js xs after room t w = elim (some_job v room w) [
   | inl s ↦ inl (record {
     more = s.front.0;
     next = part (before_jobs v after (room - length s.job.segs) t) (js ++ s.job ∷ []) xs;
-    goes = ap (λ (l : List ℕ). after_at (Jobs v after room t) js xs l) (sym s.front.1) ∙ ap (option_map (λ (j : Job). part (before_jobs v after (room - length j.segs) t) (js ++ j ∷ []) xs)) (job_of-front v room s.job s.is s.few);
+    goes = ap (λ (l : List ℕ). after_at (Jobs v after room t) js xs l) (sym s.front.1) ∙
+        ap (option_map (λ (j : Job). part (before_jobs v after (room - length j.segs) t) (js ++ j ∷ []) xs)) (job_of-front v room s.job s.is s.few);
   })
   | inr none ↦ inr (λ n. none (job_line_from v js xs after room t w n.more n.next (job_of v room (w ++ n.more)) refl n.goes))
 ]
@@ -256,7 +278,8 @@ record SomeStretch (m : ℕ) (before : Option Tick) (left : ℕ) (w : List ℕ) 
   counted : SomeCount before left w tick
 
 -- none of these stretches
-no_stretch : (m : ℕ) (before : Option Tick) (left : ℕ) (w : List ℕ) → (SomeCount before left w Off → ⊥) → (SomeCount before left w Idle → ⊥) → ((k : ℕ) → k < m → SomeCount before left w (Runs k) → ⊥)
+no_stretch : (m : ℕ) (before : Option Tick) (left : ℕ) (w : List ℕ) → (SomeCount before left w Off → ⊥) →
+    (SomeCount before left w Idle → ⊥) → ((k : ℕ) → k < m → SomeCount before left w (Runs k) → ⊥)
     → (x : Tick) → IsTickOf m x → SomeCount before left w x → ⊥
 no_stretch m before left w off idle runs Off of s = off s
 no_stretch m before left w off idle runs Idle of s = idle s
@@ -274,7 +297,8 @@ some_stretch m before left w = elim (some_count before left w Off) [
   ]
 ]
 
-stretch_line_from : (js : List Job) (xs : List Tick) (before : Option Tick) (left : ℕ) (w more : List ℕ) (q : Part) (o : Option Stretch) → length js ≤ 20000 → left ≤ 100000 → stretch_of (length js) left (w ++ more) ≡ o
+stretch_line_from : (js : List Job) (xs : List Tick) (before : Option Tick) (left : ℕ) (w more : List ℕ) (q : Part)
+    (o : Option Stretch) → length js ≤ 20000 → left ≤ 100000 → stretch_of (length js) left (w ++ more) ≡ o
     → option_and_then (with_stretch before left js xs) o ≡ Some q → SomeStretch (length js) before left w
 stretch_line_from js xs before left w more q None small few is = λ e. absurd (cc)
 stretch_line_from js xs before left w more q (Some s) small few is = elim (cases_Bool (is_repeated before s.tick)) [
@@ -286,30 +310,37 @@ stretch_line_from js xs before left w more q (Some s) small few is = elim (cases
       record { tick = s.tick; of = read.of; counted = record { count = s.count; some = read.some; few = read.few; apart = h; front = (more, sym front) } }
 ]
 
-next_stretch : (js : List Job) (xs : List Tick) (before : Option Tick) (left : ℕ) (w : List ℕ) → length js ≤ 20000 → left ≤ 100000 → (left == 0) ≡ false → NextLine (part (Ticks before left) js xs) w ⊎ (NextLine (part (Ticks before left) js xs) w → ⊥)
+next_stretch : (js : List Job) (xs : List Tick) (before : Option Tick) (left : ℕ) (w : List ℕ) → length js ≤ 20000 →
+    left ≤ 100000 → (left == 0) ≡ false → NextLine (part (Ticks before left) js xs) w ⊎ (NextLine (part (Ticks before left) js xs) w → ⊥)
 next_stretch js xs before left w small few some =
-    let after : (line : List ℕ) → after_at (Ticks before left) js xs line ≡ option_and_then (with_stretch before left js xs) (stretch_of (length js) left line) = λ line. rw some refl in
+    let after : (line : List ℕ) → after_at (Ticks before left) js xs line ≡ option_and_then (with_stretch before left js xs)
+    (stretch_of (length js) left line) = λ line. rw some refl in
     elim (some_stretch (length js) before left w) [
       | inl s ↦
           (let c = s.counted in
           let apart : is_repeated before s.tick ≡ false = c.apart in
-          let read : stretch_of (length js) left (stretch_front s.tick c.count) ≡ Some (stretch s.tick c.count) = stretch_of-front (length js) left s.tick c.count small few s.of c.some c.few in
+          let read : stretch_of (length js) left (stretch_front s.tick c.count) ≡ Some (stretch s.tick c.count) =
+          stretch_of-front (length js) left s.tick c.count small few s.of c.some c.few in
           inl (record {
             more = c.front.0;
             next = part (Ticks (Some s.tick) (left - c.count)) js (xs ++ replicate c.count s.tick);
-            goes = ap (λ (l : List ℕ). after_at (Ticks before left) js xs l) (sym c.front.1) ∙ after (stretch_front s.tick c.count) ∙ ap (option_and_then (with_stretch before left js xs)) read ∙ rw apart refl;
+            goes = ap (λ (l : List ℕ). after_at (Ticks before left) js xs l) (sym c.front.1) ∙
+                after (stretch_front s.tick c.count) ∙ ap (option_and_then (with_stretch before left js xs)) read ∙ rw apart refl;
           }))
-      | inr none ↦ inr (λ n. none (stretch_line_from js xs before left w n.more n.next (stretch_of (length js) left (w ++ n.more)) small few refl (sym (after (w ++ n.more)) ∙ n.goes)))
+      | inr none ↦ inr (λ n. none (stretch_line_from js xs before left w n.more n.next
+          (stretch_of (length js) left (w ++ n.more)) small few refl (sym (after (w ++ n.more)) ∙ n.goes)))
     ]
 
-next_ticks : (js : List Job) (xs : List Tick) (before : Option Tick) (left : ℕ) (w : List ℕ) → length js ≤ 20000 → left ≤ 100000 → NextLine (part (Ticks before left) js xs) w ⊎ (NextLine (part (Ticks before left) js xs) w → ⊥)
+next_ticks : (js : List Job) (xs : List Tick) (before : Option Tick) (left : ℕ) (w : List ℕ) → length js ≤ 20000 → left ≤ 100000 →
+    NextLine (part (Ticks before left) js xs) w ⊎ (NextLine (part (Ticks before left) js xs) w → ⊥)
 next_ticks js xs before left w small few = elim (cases_Bool (left == 0)) [
   | inl none ↦ next_text (part (Ticks before left) js xs) (part Over js xs) (codes "end") w (λ line. rw none refl)
   | inr some ↦ next_stretch js xs before left w small few some
 ]
 
 -- whether a line that may come begins so
-pub next_line_or_not : (stage : Stage) (js : List Job) (xs : List Tick) (w : List ℕ) → IsSmall (part stage js xs) → NextLine (part stage js xs) w ⊎ (NextLine (part stage js xs) w → ⊥)
+pub next_line_or_not : (stage : Stage) (js : List Job) (xs : List Tick) (w : List ℕ) → IsSmall (part stage js xs) →
+    NextLine (part stage js xs) w ⊎ (NextLine (part stage js xs) w → ⊥)
 next_line_or_not Head js xs w small = next_head js xs w
 next_line_or_not (Counts v) js xs w small = next_counts v js xs w
 next_line_or_not (Jobs v after room t) js xs w small = next_job v js xs after room t w

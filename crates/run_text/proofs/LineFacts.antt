@@ -1,5 +1,6 @@
 -- The lines of counts, jobs and stretches, as they are written and as they are read.
-use Rattle.std.proofs.Common.{◌≡◌, ℕ, zero, suc, ◌+◌, ◌<◌, ◌≤◌, ◌^◌, ◌==◌, Bool, true, false, cond, ◌&&◌, List, [], ◌∷◌, ◌++◌, length, codes, decimal, map, refl, sym, ap, subst, ◌∙◌, arith, Option, Some, None, append_assoc, append-nil, length-append, inl, inr}
+use Rattle.std.proofs.Common.{◌≡◌, ℕ, zero, suc, ◌+◌, ◌<◌, ◌≤◌, ◌^◌, ◌==◌, Bool, true, false, cond, ◌&&◌, List, [], ◌∷◌, ◌++◌, length, codes, decimal}
+use Rattle.std.proofs.Common.{map, refl, sym, ap, subst, ◌∙◌, arith, Option, Some, None, append_assoc, append-nil, length-append, inl, inr}
 use Rattle.std.specs.List.{All, AllByRecursion, flat_map}
 use Rattle.std.specs.Option.{option_map, option_and_then}
 use Rattle.std.proofs.lemmas.Bool.{cases_Bool, and_parts, ne_eqb, eq-eqb, both_ways}
@@ -14,9 +15,11 @@ use Rattle.run_model.specs.declared.run.Tick.{Tick}
 use Rattle.run_model.specs.declared.run.Tick.TheVariants.{Off, Idle, Runs}
 use Rattle.run_text.specs.declared.version.Version.{Version}
 use Rattle.run_text.specs.declared.version.Version.TheVariants.{First, Second}
-use Rattle.run_text.specs.Text.{Stretch, stretch, tick_words, stretch_line, segment_text, head_of, release_text, job_line, counts_line, greatest_release, IsSegment, IsJob, IsTickOf, Tells}
+use Rattle.run_text.specs.Text.{Stretch, stretch, tick_words, stretch_line, segment_text, head_of, release_text, job_line, counts_line}
+use Rattle.run_text.specs.Text.{greatest_release, IsSegment, IsJob, IsTickOf, Tells}
 use Rattle.run_text.specs.Words.{words_of, is_text}
-use Rattle.run_text.specs.Lines.{version_of, both, counts_from, counts_of, job_number, release_number, segments_from, make_job, job_with, from_release, job_behind, job_from, job_of, stretch_with, named_job, stretch_from, stretch_of}
+use Rattle.run_text.specs.Lines.{version_of, both, counts_from, counts_of, job_number, release_number, segments_from, make_job, job_with}
+use Rattle.run_text.specs.Lines.{from_release, job_behind, job_from, job_of, stretch_with, named_job, stretch_from, stretch_of}
 use Rattle.run_text.proofs.WordFacts.{Lacks, lacks_append, decimal_lacks, words_last, words_more, words_of-numbers, text_is}
 
 pub all_by_recursion : {X : Type 0} (P : X → Type 0) (xs : List X) → All P xs → AllByRecursion P xs
@@ -167,14 +170,16 @@ stretch_with-decimal left x n few some le =
     let number : number_in 1 left (decimal n) ≡ Some n = number_in-decimal 1 left n (omega arith) some le in
     rw number refl
 
-stretch_from-words : (m left : ℕ) (x : Tick) (n : ℕ) → m ≤ 20000 → left ≤ 100000 → IsTickOf m x → 1 ≤ n → n ≤ left → stretch_from m left (stretch_words x n) ≡ Some (stretch x n)
+stretch_from-words : (m left : ℕ) (x : Tick) (n : ℕ) → m ≤ 20000 → left ≤ 100000 → IsTickOf m x → 1 ≤ n → n ≤ left →
+    stretch_from m left (stretch_words x n) ≡ Some (stretch x n)
 stretch_from-words m left Off n small few of some le = stretch_with-decimal left Off n few some le
 stretch_from-words m left Idle n small few of some le = stretch_with-decimal left Idle n few some le
 stretch_from-words m left (Runs k) n small few of some le =
     let number : named_job m (decimal k) ≡ Some k = named_job-decimal m k (omega arith) of in
     ap (λ (o : Option ℕ). option_and_then (λ job. stretch_with left (Runs job) (decimal n)) o) number ∙ stretch_with-decimal left (Runs k) n few some le
 
-pub stretch_of-front : (m left : ℕ) (x : Tick) (n : ℕ) → m ≤ 20000 → left ≤ 100000 → IsTickOf m x → 1 ≤ n → n ≤ left → stretch_of m left (stretch_front x n) ≡ Some (stretch x n)
+pub stretch_of-front : (m left : ℕ) (x : Tick) (n : ℕ) → m ≤ 20000 → left ≤ 100000 → IsTickOf m x → 1 ≤ n → n ≤ left →
+    stretch_of m left (stretch_front x n) ≡ Some (stretch x n)
 stretch_of-front m left x n small few of some le =
     ap (stretch_from m left) (stretch_front-words m x n (omega arith) of (omega arith)) ∙ stretch_from-words m left x n small few of some le
 
@@ -194,10 +199,12 @@ counted_by left x n s (Some k) is e =
     let count : k ≡ s.count = ap (λ (t : Stretch). t.count) same in
     (r.0 ∙ ap decimal count, ap (λ (t : Stretch). t.tick) same, omega (arith, count, r.1), omega (arith, count, r.2))
 
-stretch_with-is : (left : ℕ) (x : Tick) (n : List ℕ) (s : Stretch) → stretch_with left x n ≡ Some s → (n ≡ decimal s.count) × (x ≡ s.tick) × (1 ≤ s.count) × (s.count ≤ left)
+stretch_with-is : (left : ℕ) (x : Tick) (n : List ℕ) (s : Stretch) → stretch_with left x n ≡ Some s →
+    (n ≡ decimal s.count) × (x ≡ s.tick) × (1 ≤ s.count) × (s.count ≤ left)
 stretch_with-is left x n s e = counted_by left x n s (number_in 1 left n) refl e
 
-plain_reads : (m left : ℕ) (a n : List ℕ) (x : Tick) (word : List ℕ) (s : Stretch) → is_text a word ≡ true → ((k : ℕ) → stretch_words x k ≡ word ∷ (decimal k ∷ [])) → IsTickOf m x → stretch_with left x n ≡ Some s → ReadsStretch m left (a ∷ (n ∷ [])) s
+plain_reads : (m left : ℕ) (a n : List ℕ) (x : Tick) (word : List ℕ) (s : Stretch) → is_text a word ≡ true →
+    ((k : ℕ) → stretch_words x k ≡ word ∷ (decimal k ∷ [])) → IsTickOf m x → stretch_with left x n ≡ Some s → ReadsStretch m left (a ∷ (n ∷ [])) s
 plain_reads m left a n x word s test words of e =
     let r = stretch_with-is left x n s e in
     let first : a ≡ word = text_is a word test in
@@ -209,7 +216,8 @@ plain_reads m left a n x word s test words of e =
       few = r.3;
     }
 
-job_reads : (m left : ℕ) (a k n : List ℕ) (s : Stretch) (o : Option ℕ) → is_text a (codes "run") ≡ true → named_job m k ≡ o → option_and_then (λ job. stretch_with left (Runs job) n) o ≡ Some s → ReadsStretch m left (a ∷ (k ∷ (n ∷ []))) s
+job_reads : (m left : ℕ) (a k n : List ℕ) (s : Stretch) (o : Option ℕ) → is_text a (codes "run") ≡ true → named_job m k ≡ o →
+    option_and_then (λ job. stretch_with left (Runs job) n) o ≡ Some s → ReadsStretch m left (a ∷ (k ∷ (n ∷ []))) s
 job_reads m left a k n s None test is e = absurd (cc)
 job_reads m left a k n s (Some j) test is e =
     let r = stretch_with-is left (Runs j) n s e in
@@ -279,9 +287,11 @@ segments_fit : (ns : List ℕ) → AllByRecursion IsSegment ns → AllByRecursio
 segments_fit [] h = tt
 segments_fit (n ∷ ns) h = (omega (arith, h.0), segments_fit ns h.1)
 
-release_text-words : (version : Version) (release : ℕ) (t : List ℕ) → release < 2 ^ 64 → words_of (release_text version release ++ t) ≡ release_words version release ++ words_of t
+release_text-words : (version : Version) (release : ℕ) (t : List ℕ) → release < 2 ^ 64 →
+    words_of (release_text version release ++ t) ≡ release_words version release ++ words_of t
 release_text-words First release t h = refl
-release_text-words Second release t h = ap words_of (append_assoc (decimal release) (codes " ") t) ∙ words_more (decimal release) t (decimal_lacks 32 release (omega arith) h)
+release_text-words Second release t h = ap words_of (append_assoc (decimal release) (codes " ") t) ∙
+    words_more (decimal release) t (decimal_lacks 32 release (omega arith) h)
 
 pub job_front-words : (version : Version) (j : Job) → IsJob j → words_of (job_front version j) ≡ job_words version j
 job_front-words version j h =
@@ -291,15 +301,18 @@ job_front-words version j h =
     let c = decimal j.cost in
     let s = flat_map segment_text j.segs in
     let last : words_of (c ++ s) ≡ c ∷ map decimal j.segs =
-    words_of-numbers c j.segs (decimal_lacks 32 j.cost (omega arith) (omega (arith, h.cost))) (segments_fit j.segs (all_by_recursion IsSegment j.segs h.segs)) in
-    ap (λ (ws : List (List ℕ)). codes "j" ∷ ws) (words_more t (a ++ (codes " " ++ (e ++ (c ++ s)))) (decimal_lacks 32 j.task (omega arith) (omega (arith, h.task)))
+    words_of-numbers c j.segs (decimal_lacks 32 j.cost (omega arith) (omega (arith, h.cost)))
+    (segments_fit j.segs (all_by_recursion IsSegment j.segs h.segs)) in
+    ap (λ (ws : List (List ℕ)). codes "j" ∷ ws)
+    (words_more t (a ++ (codes " " ++ (e ++ (c ++ s)))) (decimal_lacks 32 j.task (omega arith) (omega (arith, h.task)))
     ∙ ap (λ (ws : List (List ℕ)). t ∷ ws) (words_more a (e ++ (c ++ s)) (decimal_lacks 32 j.arrival (omega arith) (omega (arith, h.arrival)))
     ∙ ap (λ (ws : List (List ℕ)). a ∷ ws) (release_text-words version j.release (c ++ s) (omega (arith, h.release))
     ∙ ap (λ (ws : List (List ℕ)). release_words version j.release ++ ws) last)))
 
 segments-lack : (ns : List ℕ) → AllByRecursion IsSegment ns → Lacks 10 (flat_map segment_text ns)
 segments-lack [] h = tt
-segments-lack (n ∷ ns) h = lacks_append 10 (segment_text n) (flat_map segment_text ns) (refl, decimal_lacks 10 n (omega arith) (omega (arith, h.0))) (segments-lack ns h.1)
+segments-lack (n ∷ ns) h = lacks_append 10 (segment_text n) (flat_map segment_text ns)
+    (refl, decimal_lacks 10 n (omega arith) (omega (arith, h.0))) (segments-lack ns h.1)
 
 release_text-lacks : (version : Version) (release : ℕ) → release < 2 ^ 64 → Lacks 10 (release_text version release)
 release_text-lacks First release h = tt
@@ -312,11 +325,18 @@ job_front-lacks version j h =
     let e = release_text version j.release in
     let c = decimal j.cost in
     let s = flat_map segment_text j.segs in
-    let last : Lacks 10 (c ++ s) = lacks_append 10 c s (decimal_lacks 10 j.cost (omega arith) (omega (arith, h.cost))) (segments-lack j.segs (all_by_recursion IsSegment j.segs h.segs)) in
+    let last : Lacks 10 (c ++ s) = lacks_append 10 c s (decimal_lacks 10 j.cost (omega arith) (omega (arith, h.cost)))
+    (segments-lack j.segs (all_by_recursion IsSegment j.segs h.segs)) in
     let behind : Lacks 10 (e ++ (c ++ s)) = lacks_append 10 e (c ++ s) (release_text-lacks version j.release (omega (arith, h.release))) last in
     let middle : Lacks 10 (a ++ (codes " " ++ (e ++ (c ++ s)))) =
-    lacks_append 10 a (codes " " ++ (e ++ (c ++ s))) (decimal_lacks 10 j.arrival (omega arith) (omega (arith, h.arrival))) (refl, behind) in
-    (refl, (refl, lacks_append 10 t (codes " " ++ (a ++ (codes " " ++ (e ++ (c ++ s))))) (decimal_lacks 10 j.task (omega arith) (omega (arith, h.task))) (refl, middle)))
+    lacks_append 10 a (codes " " ++ (e ++ (c ++ s))) (decimal_lacks 10 j.arrival (omega arith) (omega (arith, h.arrival))) (refl, behind) in (
+      refl,
+      (
+        refl,
+        lacks_append 10 t (codes " " ++ (a ++ (codes " " ++ (e ++ (c ++ s)))))
+            (decimal_lacks 10 j.task (omega arith) (omega (arith, h.task))) (refl, middle),
+      ),
+    )
 
 job_number-decimal : (n : ℕ) → n ≤ greatest_number → job_number (decimal n) ≡ Some n
 job_number-decimal n h = number_in-decimal 0 1000000000 n (omega arith) (omega arith) h
@@ -328,15 +348,18 @@ release_number-decimal n h = number_in-decimal 0 greatest_release n (omega arith
 room_test : (k m room : ℕ) → k + suc m ≤ room → (k == room) ≡ false
 room_test k m room h = ne_eqb k room (λ e. absurd (omega arith))
 
-segments_from-decimals : (room : ℕ) (done ns : List ℕ) → length done + length ns ≤ room → AllByRecursion IsSegment ns → segments_from room done (map decimal ns) ≡ Some (done ++ ns)
+segments_from-decimals : (room : ℕ) (done ns : List ℕ) → length done + length ns ≤ room → AllByRecursion IsSegment ns →
+    segments_from room done (map decimal ns) ≡ Some (done ++ ns)
 segments_from-decimals room done [] h all = ap Some (sym (append-nil done))
 segments_from-decimals room done (n ∷ ns) h all =
     let test : (length done == room) ≡ false = room_test (length done) (length ns) room h in
     let number : job_number (decimal n) ≡ Some n = job_number-decimal n all.0 in
-    rw (test, number) (segments_from-decimals room (done ++ n ∷ []) ns (omega (arith, length-append done (n ∷ []))) all.1 ∙ ap Some (append_assoc done (n ∷ []) ns))
+    rw (test, number) (segments_from-decimals room (done ++ n ∷ []) ns (omega (arith, length-append done (n ∷ []))) all.1 ∙
+    ap Some (append_assoc done (n ∷ []) ns))
 
 -- where the arrival stands for a release that the version does not say
-from_release-words : (version : Version) (j : Job) (ws : List (List ℕ)) → Tells version j → from_release version (decimal j.arrival) (release_words version j.release ++ ws) ≡ decimal j.release ∷ ws
+from_release-words : (version : Version) (j : Job) (ws : List (List ℕ)) → Tells version j →
+    from_release version (decimal j.arrival) (release_words version j.release ++ ws) ≡ decimal j.release ∷ ws
 from_release-words First j ws told = ap (λ (n : ℕ). decimal n ∷ ws) (sym (told refl))
 from_release-words Second j ws told = refl
 
@@ -346,7 +369,8 @@ job_of-front version room j h few =
     let arrival : job_number (decimal j.arrival) ≡ Some j.arrival = job_number-decimal j.arrival h.job.arrival in
     let release : release_number (decimal j.release) ≡ Some j.release = release_number-decimal j.release h.job.release in
     let cost : job_number (decimal j.cost) ≡ Some j.cost = job_number-decimal j.cost h.job.cost in
-    let segs : segments_from room [] (map decimal j.segs) ≡ Some j.segs = segments_from-decimals room [] j.segs (omega arith) (all_by_recursion IsSegment j.segs h.job.segs) in
+    let segs : segments_from room [] (map decimal j.segs) ≡ Some j.segs = segments_from-decimals room [] j.segs (omega arith)
+    (all_by_recursion IsSegment j.segs h.job.segs) in
     ap (job_from version room) (job_front-words version j h.job)
     ∙ ap (job_behind room (codes "j") (decimal j.task) (decimal j.arrival)) (from_release-words version j (decimal j.cost ∷ map decimal j.segs) h.told)
     ∙ rw (task, arrival, release, cost, segs) refl
@@ -359,11 +383,14 @@ record ReadsSegments (room : ℕ) (done : List ℕ) (ws : List (List ℕ)) (v : 
   few : length v ≤ room
   all : AllByRecursion IsSegment more
 
-segment_first : (room : ℕ) (done : List ℕ) (w : List ℕ) (ws : List (List ℕ)) (v : List ℕ) (o : Option ℕ) → job_number w ≡ o → option_and_then (λ n. segments_from room (done ++ n ∷ []) ws) o ≡ Some v → (n : ℕ) × (job_number w ≡ Some n) × (segments_from room (done ++ n ∷ []) ws ≡ Some v)
+segment_first : (room : ℕ) (done : List ℕ) (w : List ℕ) (ws : List (List ℕ)) (v : List ℕ) (o : Option ℕ) → job_number w ≡ o →
+    option_and_then (λ n. segments_from room (done ++ n ∷ []) ws) o ≡ Some v →
+    (n : ℕ) × (job_number w ≡ Some n) × (segments_from room (done ++ n ∷ []) ws ≡ Some v)
 segment_first room done w ws v None is e = absurd (cc)
 segment_first room done w ws v (Some n) is e = (n, is, e)
 
-segments_back : (room : ℕ) (done : List ℕ) (ws : List (List ℕ)) (v : List ℕ) → length done ≤ room → segments_from room done ws ≡ Some v → ReadsSegments room done ws v
+segments_back : (room : ℕ) (done : List ℕ) (ws : List (List ℕ)) (v : List ℕ) → length done ≤ room →
+    segments_from room done ws ≡ Some v → ReadsSegments room done ws v
 segments_back room done [] v few = λ e.
     let same : done ≡ v = cc in
     record { more = []; is = sym same ∙ sym (append-nil done); words = refl; few = omega (arith, ap length same); all = tt }
@@ -393,7 +420,8 @@ record ReadsBehind (room : ℕ) (a t r : List ℕ) (ws : List (List ℕ)) (j : J
   few : length j.segs ≤ room
 
 job_parts : (room : ℕ) (a t r l c : List ℕ) (ws : List (List ℕ)) (j : Job) (ot oa ol oc : Option ℕ) (os : Option (List ℕ)) → a ≡ codes "j" →
-    job_number t ≡ ot → job_number r ≡ oa → release_number l ≡ ol → job_number c ≡ oc → segments_from room [] ws ≡ os → job_with ot oa ol oc os ≡ Some j → ReadsBehind room a t r (l ∷ (c ∷ ws)) j
+    job_number t ≡ ot → job_number r ≡ oa → release_number l ≡ ol → job_number c ≡ oc → segments_from room [] ws ≡ os →
+    job_with ot oa ol oc os ≡ Some j → ReadsBehind room a t r (l ∷ (c ∷ ws)) j
 job_parts room a t r l c ws j None oa ol oc os first it ia il ic iss e = absurd (cc)
 job_parts room a t r l c ws j (Some task) None ol oc os first it ia il ic iss e = absurd (cc)
 job_parts room a t r l c ws j (Some task) (Some arrival) None oc os first it ia il ic iss e = absurd (cc)
@@ -424,7 +452,8 @@ behind_back : (room : ℕ) (a t r : List ℕ) (ws : List (List ℕ)) (j : Job) �
 behind_back room a t r [] j = λ e. absurd (cc)
 behind_back room a t r (l ∷ []) j = λ e. absurd (cc)
 behind_back room a t r (l ∷ (c ∷ ws)) j = elim (cases_Bool (is_text a (codes "j"))) [
-  | inl h ↦ rw h (λ e. job_parts room a t r l c ws j (job_number t) (job_number r) (release_number l) (job_number c) (segments_from room [] ws) (text_is a (codes "j") h) refl refl refl refl refl e)
+  | inl h ↦ rw h (λ e. job_parts room a t r l c ws j (job_number t) (job_number r) (release_number l) (job_number c)
+      (segments_from room [] ws) (text_is a (codes "j") h) refl refl refl refl refl e)
   | inr h ↦ rw h (λ e. absurd (cc))
 ]
 
@@ -434,7 +463,8 @@ pub record ReadsJob (version : Version) (room : ℕ) (ws : List (List ℕ)) (j :
   pub job : IsJobIn version j
   pub few : length j.segs ≤ room
 
-words_back : (version : Version) (room : ℕ) (a t r : List ℕ) (ws : List (List ℕ)) (j : Job) → ReadsBehind room a t r (from_release version r ws) j → ReadsJob version room (a ∷ (t ∷ (r ∷ ws))) j
+words_back : (version : Version) (room : ℕ) (a t r : List ℕ) (ws : List (List ℕ)) (j : Job) →
+    ReadsBehind room a t r (from_release version r ws) j → ReadsJob version room (a ∷ (t ∷ (r ∷ ws))) j
 words_back First room a t r ws j b =
     let first : a ≡ codes "j" = b.first in
     let task : t ≡ decimal j.task = b.task in
@@ -444,7 +474,11 @@ words_back First room a t r ws j b =
     let behind : ws ≡ decimal j.cost ∷ map decimal j.segs = cc in
     record {
       words = rw (first, task, arrival, behind) refl;
-      job = record { job = b.job; told = λ e. decimal_injective j.release j.arrival (omega (arith, b.job.release)) (omega (arith, b.job.arrival)) (sym release ∙ arrival) };
+      job = record {
+        job = b.job;
+        told = λ e. decimal_injective j.release j.arrival (omega (arith, b.job.release))
+            (omega (arith, b.job.arrival)) (sym release ∙ arrival);
+      };
       few = b.few;
     }
 words_back Second room a t r ws j b =

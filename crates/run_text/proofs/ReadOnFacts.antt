@@ -1,5 +1,6 @@
 -- Reading on by a byte.
-use Rattle.std.proofs.Common.{◌≡◌, ◌≢◌, ℕ, ◌+◌, ◌-◌, ◌<◌, ◌≤◌, Bool, true, false, cond, List, [], ◌∷◌, ◌++◌, length, take, drop, get_or, refl, sym, ap, ◌∙◌, arith, Some, None, Ok, Err, length-drop}
+use Rattle.std.proofs.Common.{◌≡◌, ◌≢◌, ℕ, ◌+◌, ◌-◌, ◌<◌, ◌≤◌, Bool, true, false, cond, List, [], ◌∷◌, ◌++◌, length, take, drop, get_or, refl, sym}
+use Rattle.std.proofs.Common.{ap, ◌∙◌, arith, Some, None, Ok, Err, length-drop}
 use Rattle.std.proofs.lemmas.Bool.{eq-eqb, ne_eqb}
 use Rattle.std.proofs.lemmas.List.{at_drop_more, take_more, take_all, drop_all, get_or-drop}
 use Rattle.std.proofs.Math.Seq.{take-nil}
@@ -33,7 +34,8 @@ between_none i bytes = let none : i - i ≡ 0 = omega arith in ap (λ (k : ℕ).
 
 -- the end of a line that may come
 pub on_line : (p q : Part) (n i : ℕ) (line bytes : List ℕ) (fits : Bool) → i < length bytes → get_or bytes i 0 ≡ 10 →
-    after_line p line ≡ cond fits (Some q) None → fits ≡ true → read_on p n line (drop i bytes) ≡ read_on q (n + 1) (between (i + 1) (i + 1) bytes) (drop (i + 1) bytes)
+    after_line p line ≡ cond fits (Some q) None → fits ≡ true →
+    read_on p n line (drop i bytes) ≡ read_on q (n + 1) (between (i + 1) (i + 1) bytes) (drop (i + 1) bytes)
 on_line p q n i line bytes fits less newline is fitting =
     let next : after_line p line ≡ Some q = is ∙ rw fitting refl in
     at_drop_more (λ t. read_on p n line t) bytes i 0 less ∙ rw (eq-eqb (get_or bytes i 0) 10 newline, next) refl
@@ -68,5 +70,6 @@ pub on_end : (p : Part) (n i start : ℕ) (bytes : List ℕ) → start ≤ i →
 on_end p n i start bytes before le inside h =
     let rest : drop i bytes ≡ [] = drop_all i bytes le in
     let all : between start i bytes ≡ drop start bytes = take_all (i - start) (drop start bytes) (omega (arith, length-drop start bytes)) in
-    let out : is_whole p.stage (between start i bytes) ≡ false = not_whole p.stage (between start i bytes) (λ over none. h over (omega (arith, ap length (sym all ∙ none), length-drop start bytes))) in
+    let out : is_whole p.stage (between start i bytes) ≡ false =
+    not_whole p.stage (between start i bytes) (λ over none. h over (omega (arith, ap length (sym all ∙ none), length-drop start bytes))) in
     ap (read_on p n (between start i bytes)) rest ∙ rw out refl

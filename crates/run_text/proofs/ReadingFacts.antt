@@ -1,5 +1,6 @@
 -- Any bytes have one reading.
-use Rattle.std.proofs.Common.{◌≡◌, ℕ, ◌+◌, ◌<◌, ◌≤◌, ◌⊎◌, ◌==◌, true, List, [], ◌∷◌, ◌++◌, length, take, drop, refl, sym, ap, subst, ◌∙◌, arith, Option, Some, None, Result, Ok, Err, inl, inr, append_assoc, append-nil, length-append, zero-add}
+use Rattle.std.proofs.Common.{◌≡◌, ℕ, ◌+◌, ◌<◌, ◌≤◌, ◌⊎◌, ◌==◌, true, List, [], ◌∷◌, ◌++◌, length, take, drop, refl, sym, ap, subst, ◌∙◌, arith}
+use Rattle.std.proofs.Common.{Option, Some, None, Result, Ok, Err, inl, inr, append_assoc, append-nil, length-append, zero-add}
 use Rattle.std.specs.List.{All}
 use Rattle.std.specs.Option.{option_map_or}
 use Rattle.std.proofs.lemmas.Bool.{cases_Bool, cases_lt, eqb-true}
@@ -52,7 +53,8 @@ record Behind (p : Part) (line t : List ℕ) (version : Version) (jobs : List Jo
   same_jobs : next.jobs ++ more_jobs ≡ p.jobs ++ jobs
   same_ticks : next.ticks ++ more_ticks ≡ p.ticks ++ ticks
 
-behind : (p : Part) (line t : List ℕ) (version : Version) (jobs : List Job) (ticks : List Tick) → IsSmall p → Lacks 10 line → Rest p.stage (length p.jobs) version jobs ticks
+behind : (p : Part) (line t : List ℕ) (version : Version) (jobs : List Job) (ticks : List Tick) → IsSmall p → Lacks 10 line →
+    Rest p.stage (length p.jobs) version jobs ticks
     → rest_text p.stage version jobs ticks ≡ line ++ 10 ∷ t → Behind p line t version jobs ticks
 behind p line t version jobs ticks small one r e = elim (over_or_not p.stage) [
   | inl over ↦ absurd (not_empty line t (sym (text_over p.stage version jobs ticks over) ∙ e))
@@ -77,7 +79,8 @@ abbrev pub whole_run : Part → List Job → List Tick → Run
 whole_run p jobs ticks = record { jobs = p.jobs ++ jobs; ticks = p.ticks ++ ticks }
 
 -- the whole of what follows is left at the end of the bytes
-complete_end : (p : Part) (n : ℕ) (acc : List ℕ) (version : Version) (jobs : List Job) (ticks : List Tick) → IsSmall p → Lacks 10 acc → Rest p.stage (length p.jobs) version jobs ticks
+complete_end : (p : Part) (n : ℕ) (acc : List ℕ) (version : Version) (jobs : List Job) (ticks : List Tick) → IsSmall p →
+    Lacks 10 acc → Rest p.stage (length p.jobs) version jobs ticks
     → rest_text p.stage version jobs ticks ≡ acc → read_on p n acc [] ≡ Ok (whole_run p jobs ticks)
 complete_end p n acc version jobs ticks small one r e = elim (over_or_not p.stage) [
   | inl over ↦
@@ -86,14 +89,16 @@ complete_end p n acc version jobs ticks small one r e = elim (over_or_not p.stag
       let same_jobs : p.jobs ≡ p.jobs ++ jobs = sym (append-nil p.jobs) ∙ ap (λ (l : List Job). p.jobs ++ l) (sym none.no_jobs) in
       let same_ticks : p.ticks ≡ p.ticks ++ ticks = sym (append-nil p.ticks) ∙ ap (λ (l : List Tick). p.ticks ++ l) (sym none.no_ticks) in
       let step : read_on p n acc [] ≡ Ok (record { jobs = p.jobs; ticks = p.ticks }) = rw (over, line) refl in
-      step ∙ ap (λ (js : List Job). Ok (record { jobs = js; ticks = p.ticks })) same_jobs ∙ ap (λ (xs : List Tick). Ok (record { jobs = p.jobs ++ jobs; ticks = xs })) same_ticks)
+      step ∙ ap (λ (js : List Job). Ok (record { jobs = js; ticks = p.ticks })) same_jobs ∙
+      ap (λ (xs : List Tick). Ok (record { jobs = p.jobs ++ jobs; ticks = xs })) same_ticks)
   | inr some ↦
       (let g = goes p.stage p.jobs p.ticks version jobs ticks small some r in
       absurd (not_inside 10 acc g.line (rest_text g.next.stage version g.more_jobs g.more_ticks) one (sym e ∙ g.text)))
 ]
 
 -- what follows is read
-pub complete : (bytes : List ℕ) (p : Part) (n : ℕ) (acc : List ℕ) (version : Version) (jobs : List Job) (ticks : List Tick) → IsSmall p → Lacks 10 acc → Rest p.stage (length p.jobs) version jobs ticks
+pub complete : (bytes : List ℕ) (p : Part) (n : ℕ) (acc : List ℕ) (version : Version) (jobs : List Job) (ticks : List Tick) →
+    IsSmall p → Lacks 10 acc → Rest p.stage (length p.jobs) version jobs ticks
     → rest_text p.stage version jobs ticks ≡ acc ++ bytes → read_on p n acc bytes ≡ Ok (whole_run p jobs ticks)
 complete [] p n acc version jobs ticks small one r e = complete_end p n acc version jobs ticks small one r (e ∙ append-nil acc)
 complete (x ∷ bytes) p n acc version jobs ticks small one r e = elim (cases_Bool (x == 10)) [
@@ -104,7 +109,8 @@ complete (x ∷ bytes) p n acc version jobs ticks small one r e = elim (cases_Bo
       rw (h, step) (complete bytes b.next (n + 1) [] version b.more_jobs b.more_ticks b.small tt b.rest b.text
       ∙ ap (λ (js : List Job). Ok (record { jobs = js; ticks = b.next.ticks ++ b.more_ticks })) b.same_jobs
       ∙ ap (λ (xs : List Tick). Ok (record { jobs = p.jobs ++ jobs; ticks = xs })) b.same_ticks))
-  | inr h ↦ rw h (complete bytes p n (acc ++ x ∷ []) version jobs ticks small (lacks_append 10 acc (x ∷ []) one (h, tt)) r (e ∙ sym (append_assoc acc (x ∷ []) bytes)))
+  | inr h ↦ rw h (complete bytes p n (acc ++ x ∷ []) version jobs ticks small (lacks_append 10 acc (x ∷ []) one (h, tt)) r
+      (e ∙ sym (append_assoc acc (x ∷ []) bytes)))
 ]
 
 -- what may follow begins with these bytes
@@ -171,7 +177,8 @@ pub record Refusal (p : Part) (n : ℕ) (bytes : List ℕ) (m : ℕ) : Type 0 wh
 lacks_some : (k : ℕ) (w : List ℕ) → Lacks 10 w → Lacks 10 (take k w)
 lacks_some k w h = lacks_front 10 (take k w) (drop k w) (subst (Lacks 10) (sym (take-append-drop k w)) h)
 
-within_line : (p : Part) (acc : List ℕ) (k : ℕ) (longer u : List ℕ) → ((m : ℕ) → k < m → m ≤ length acc → Begun p (take m acc) → ⊥) → acc ≡ longer ++ u → Begun p longer → length longer ≤ k
+within_line : (p : Part) (acc : List ℕ) (k : ℕ) (longer u : List ℕ) →
+    ((m : ℕ) → k < m → m ≤ length acc → Begun p (take m acc) → ⊥) → acc ≡ longer ++ u → Begun p longer → length longer ≤ k
 within_line p acc k longer u last e b = elim (cases_lt k (length longer)) [
   | inl less ↦
       (let sum : length acc ≡ length longer + length u = ap length e ∙ length-append longer u in
@@ -181,12 +188,14 @@ within_line p acc k longer u last e b = elim (cases_lt k (length longer)) [
 ]
 
 beyond_line : (p : Part) (acc t : List ℕ) (k : ℕ) (longer more u : List ℕ) → ((m : ℕ) → k < m → m ≤ length acc → Begun p (take m acc) → ⊥)
-    → ((u : List ℕ) (y : ℕ) (more : List ℕ) → t ≡ (y ∷ u) ++ more → Begun p (acc ++ y ∷ u) → ⊥) → longer ≡ acc ++ u → t ≡ u ++ more → Begun p longer → length longer ≤ k
+    → ((u : List ℕ) (y : ℕ) (more : List ℕ) → t ≡ (y ∷ u) ++ more → Begun p (acc ++ y ∷ u) → ⊥) → longer ≡ acc ++ u →
+    t ≡ u ++ more → Begun p longer → length longer ≤ k
 beyond_line p acc t k longer more [] last stuck e f b = within_line p acc k longer [] last (sym (append-nil acc) ∙ sym e ∙ sym (append-nil longer)) b
 beyond_line p acc t k longer more (y ∷ u) last stuck e f b = absurd (stuck u y more f (subst (Begun p) e b))
 
 -- no line is read any more behind acc
-refuse_here : (p : Part) (n : ℕ) (acc t : List ℕ) → IsSmall p → Lacks 10 acc → ((u : List ℕ) (y : ℕ) (more : List ℕ) → t ≡ (y ∷ u) ++ more → Begun p (acc ++ y ∷ u) → ⊥) → Refusal p n (acc ++ t) n
+refuse_here : (p : Part) (n : ℕ) (acc t : List ℕ) → IsSmall p → Lacks 10 acc →
+    ((u : List ℕ) (y : ℕ) (more : List ℕ) → t ≡ (y ∷ u) ++ more → Begun p (acc ++ y ∷ u) → ⊥) → Refusal p n (acc ++ t) n
 refuse_here p n acc t small one stuck =
     let Front : ℕ → Type 0 = λ k. Begun p (take k acc) in
     let last = last_up_to Front (λ k. Begun p (take k acc) → ⊥) (λ k. begun_or_not p (take k acc) small (lacks_some k acc one)) (begun_empty p) (length acc) in
@@ -209,7 +218,15 @@ found_before : (p q : Part) (acc t : List ℕ) → IsSmall p → after_line p ac
 found_before p q acc t small e b =
     let l = leads p.stage p.jobs p.ticks acc q small e in
     let c = l.back b.version b.jobs b.ticks b.rest in
-    record { version = c.version; jobs = c.jobs; ticks = c.ticks; more = b.more; rest = c.rest; text = c.text ∙ ap (λ (l : List ℕ). acc ++ 10 ∷ l) b.text ∙ sym (append_assoc acc (10 ∷ t) b.more) }
+    record {
+      version = c.version;
+      jobs = c.jobs;
+      ticks = c.ticks;
+      more = b.more;
+      rest = c.rest;
+      text = c.text ∙
+          ap (λ (l : List ℕ). acc ++ 10 ∷ l) b.text ∙ sym (append_assoc acc (10 ∷ t) b.more);
+    }
 
 found_behind : (p q : Part) (acc t : List ℕ) → IsSmall p → Lacks 10 acc → after_line p acc ≡ Some q → Begun p (acc ++ 10 ∷ t) → Begun q t
 found_behind p q acc t small one e b =
@@ -218,7 +235,8 @@ found_behind p q acc t small one e b =
     let found : Begun h.next t = record { version = b.version; jobs = h.more_jobs; ticks = h.more_ticks; more = b.more; rest = h.rest; text = h.text } in
     subst (λ (q : Part). Begun q t) same found
 
-refuse_before : (p q : Part) (n : ℕ) (acc t : List ℕ) (m : ℕ) → IsSmall p → Lacks 10 acc → after_line p acc ≡ Some q → Refusal q (n + 1) t m → Refusal p n (acc ++ 10 ∷ t) m
+refuse_before : (p q : Part) (n : ℕ) (acc t : List ℕ) (m : ℕ) → IsSmall p → Lacks 10 acc → after_line p acc ≡ Some q →
+    Refusal q (n + 1) t m → Refusal p n (acc ++ 10 ∷ t) m
 refuse_before p q n acc t m small one e r = record {
   front = acc ++ 10 ∷ r.front;
   rest = r.rest;
@@ -228,7 +246,13 @@ refuse_before p q n acc t m small one e r = record {
     | inl f ↦ omega (arith, ap length f.1, length-append longer f.0, length-append acc (10 ∷ []), length-append acc (10 ∷ r.front))
     | inr f ↦
         (let parts : longer ≡ acc ++ 10 ∷ f.0 = f.1 ∙ append_assoc acc (10 ∷ []) f.0 in
-        omega (arith, ap length parts, length-append acc (10 ∷ f.0), length-append acc (10 ∷ r.front), r.longest f.0 more f.2 (found_behind p q acc f.0 small one e (subst (Begun p) parts b))))
+        omega (
+          arith,
+          ap length parts,
+          length-append acc (10 ∷ f.0),
+          length-append acc (10 ∷ r.front),
+          r.longest f.0 more f.2 (found_behind p q acc f.0 small one e (subst (Begun p) parts b)),
+        ))
   ];
   line = omega (arith, r.line, newlines-line acc r.front one);
 }
@@ -248,7 +272,8 @@ Answers p n bytes (Ok run) = Found p bytes run
 Answers p n bytes (Err (Line m)) = Refusal p n bytes m
 Answers p n bytes (Err Memory) = ⊥
 
-answers_before : (p q : Part) (n : ℕ) (acc t : List ℕ) (r : Result Run TextRefusal) → IsSmall p → Lacks 10 acc → after_line p acc ≡ Some q → Answers q (n + 1) t r → Answers p n (acc ++ 10 ∷ t) r
+answers_before : (p q : Part) (n : ℕ) (acc t : List ℕ) (r : Result Run TextRefusal) → IsSmall p → Lacks 10 acc →
+    after_line p acc ≡ Some q → Answers q (n + 1) t r → Answers p n (acc ++ 10 ∷ t) r
 answers_before p q n acc t (Ok run) small one e f =
     let l = leads p.stage p.jobs p.ticks acc q small e in
     let c = l.back f.version f.jobs f.ticks f.rest in
@@ -258,7 +283,8 @@ answers_before p q n acc t (Ok run) small one e f =
       ticks = c.ticks;
       rest = c.rest;
       text = ap (λ (l : List ℕ). acc ++ 10 ∷ l) f.text ∙ sym c.text;
-      is = f.is ∙ ap (λ (js : List Job). record { jobs = js; ticks = q.ticks ++ f.ticks }) (sym c.same_jobs) ∙ ap (λ (xs : List Tick). record { jobs = p.jobs ++ c.jobs; ticks = xs }) (sym c.same_ticks);
+      is = f.is ∙ ap (λ (js : List Job). record { jobs = js; ticks = q.ticks ++ f.ticks }) (sym c.same_jobs) ∙
+          ap (λ (xs : List Tick). record { jobs = p.jobs ++ c.jobs; ticks = xs }) (sym c.same_ticks);
     }
 answers_before p q n acc t (Err (Line m)) small one e r = refuse_before p q n acc t m small one e r
 answers_before p q n acc t (Err Memory) small one e r = r
@@ -280,11 +306,13 @@ found_over p acc over none =
       ticks = [];
       rest = subst (λ (s : Stage). Rest s (length p.jobs) Second [] []) (sym over) nothing;
       text = append-nil acc ∙ none ∙ sym (text_over p.stage Second [] [] over);
-      is = ap (λ (js : List Job). record { jobs = js; ticks = p.ticks }) (sym (append-nil p.jobs)) ∙ ap (λ (xs : List Tick). record { jobs = p.jobs ++ []; ticks = xs }) (sym (append-nil p.ticks));
+      is = ap (λ (js : List Job). record { jobs = js; ticks = p.ticks }) (sym (append-nil p.jobs)) ∙
+          ap (λ (xs : List Tick). record { jobs = p.jobs ++ []; ticks = xs }) (sym (append-nil p.ticks));
     }
 
 -- the line at acc may not come
-stuck_line : (p : Part) (acc bytes : List ℕ) → IsSmall p → Lacks 10 acc → after_line p acc ≡ None → (u : List ℕ) (y : ℕ) (more : List ℕ) → 10 ∷ bytes ≡ (y ∷ u) ++ more → Begun p (acc ++ y ∷ u) → ⊥
+stuck_line : (p : Part) (acc bytes : List ℕ) → IsSmall p → Lacks 10 acc → after_line p acc ≡ None →
+    (u : List ℕ) (y : ℕ) (more : List ℕ) → 10 ∷ bytes ≡ (y ∷ u) ++ more → Begun p (acc ++ y ∷ u) → ⊥
 stuck_line p acc bytes small one none u y more e b =
     let newline : y ≡ 10 = let turned : 10 ≡ y = cc in sym turned in
     let text = b.text ∙ append_assoc acc (y ∷ u) b.more ∙ ap (λ (z : ℕ). acc ++ z ∷ (u ++ b.more)) newline in
@@ -292,10 +320,12 @@ stuck_line p acc bytes small one none u y more e b =
     let some : after_line p acc ≡ Some h.next = h.goes in
     absurd (cc)
 
-at_newline : (bytes : List ℕ) (p : Part) (n : ℕ) (acc : List ℕ) (o : Option Part) → IsSmall p → Lacks 10 acc → after_line p acc ≡ o → ((q : Part) → IsSmall q → Answers q (n + 1) bytes (read_on q (n + 1) [] bytes))
+at_newline : (bytes : List ℕ) (p : Part) (n : ℕ) (acc : List ℕ) (o : Option Part) → IsSmall p → Lacks 10 acc →
+    after_line p acc ≡ o → ((q : Part) → IsSmall q → Answers q (n + 1) bytes (read_on q (n + 1) [] bytes))
     → Answers p n (acc ++ 10 ∷ bytes) (option_map_or (λ q. read_on q (n + 1) [] bytes) o (Err (Line n)))
 at_newline bytes p n acc None small one e next = refuse_here p n acc (10 ∷ bytes) small one (stuck_line p acc bytes small one e)
-at_newline bytes p n acc (Some q) small one e next = answers_before p q n acc bytes (read_on q (n + 1) [] bytes) small one e (next q (leads p.stage p.jobs p.ticks acc q small e).small)
+at_newline bytes p n acc (Some q) small one e next = answers_before p q n acc bytes (read_on q (n + 1) [] bytes) small one e
+    (next q (leads p.stage p.jobs p.ticks acc q small e).small)
 
 pub answers : (bytes : List ℕ) (p : Part) (n : ℕ) (acc : List ℕ) → IsSmall p → Lacks 10 acc → Answers p n (acc ++ bytes) (read_on p n acc bytes)
 answers [] p n acc small one = elim (cases_Bool (is_whole p.stage acc)) [
@@ -304,14 +334,18 @@ answers [] p n acc small one = elim (cases_Bool (is_whole p.stage acc)) [
 ]
 answers (x ∷ bytes) p n acc small one = elim (cases_Bool (x == 10)) [
   | inl h ↦ (let newline : 10 ≡ x = sym (eqb-true x 10 h) in
-      rw h (subst (λ (y : ℕ). Answers p n (acc ++ y ∷ bytes) (option_map_or (λ q. read_on q (n + 1) [] bytes) (after_line p acc) (Err (Line n)))) newline (at_newline bytes p n acc (after_line p acc) small one refl (λ q is. answers bytes q (n + 1) [] is tt))))
-  | inr h ↦ rw h (subst (λ (l : List ℕ). Answers p n l (read_on p n (acc ++ x ∷ []) bytes)) (append_assoc acc (x ∷ []) bytes) (answers bytes p n (acc ++ x ∷ []) small (lacks_append 10 acc (x ∷ []) one (h, tt))))
+      rw h (subst (λ (y : ℕ). Answers p n (acc ++ y ∷ bytes)
+      (option_map_or (λ q. read_on q (n + 1) [] bytes) (after_line p acc) (Err (Line n)))) newline
+      (at_newline bytes p n acc (after_line p acc) small one refl (λ q is. answers bytes q (n + 1) [] is tt))))
+  | inr h ↦ rw h (subst (λ (l : List ℕ). Answers p n l (read_on p n (acc ++ x ∷ []) bytes)) (append_assoc acc (x ∷ []) bytes)
+      (answers bytes p n (acc ++ x ∷ []) small (lacks_append 10 acc (x ∷ []) one (h, tt))))
 ]
 
 small_start : IsSmall nothing_read
 small_start = record { jobs = omega arith; ticks = omega arith }
 
-limits_from_rest : (version : Version) (jobs : List Job) (ticks : List Tick) → LimitsRest version 0 jobs ticks → IsWithinLimits (record { jobs = jobs; ticks = ticks })
+limits_from_rest : (version : Version) (jobs : List Job) (ticks : List Tick) → LimitsRest version 0 jobs ticks →
+    IsWithinLimits (record { jobs = jobs; ticks = ticks })
 limits_from_rest version jobs ticks r = record {
   few_jobs = r.few_jobs;
   few_ticks = r.few_ticks;
@@ -348,7 +382,8 @@ begun_from_begins b t =
     }
 
 -- the rest of a text of which nothing was read
-parses_from_rest : (b : List ℕ) (version : Version) (jobs : List Job) (ticks : List Tick) → LimitsRest version 0 jobs ticks → b ≡ rest_text Head version jobs ticks → Parses run_format b (record { jobs = jobs; ticks = ticks })
+parses_from_rest : (b : List ℕ) (version : Version) (jobs : List Job) (ticks : List Tick) → LimitsRest version 0 jobs ticks →
+    b ≡ rest_text Head version jobs ticks → Parses run_format b (record { jobs = jobs; ticks = ticks })
 parses_from_rest b version jobs ticks r e = record {
   within = limits_from_rest version jobs ticks r;
   text = record { version = version; told = λ k none b. (r.all_jobs k none b).told; text = e };
@@ -361,7 +396,8 @@ begins_from_begun b t = record {
   parses = parses_from_rest (b ++ t.more) t.version t.jobs t.ticks t.rest (sym t.text);
 }
 
-reading_from_answers : (b : List ℕ) (r : Result Run TextRefusal) → ((run : Run) → Parses run_format b run → r ≡ Ok run) → Answers nothing_read 1 b r → IsReading run_format b r
+reading_from_answers : (b : List ℕ) (r : Result Run TextRefusal) → ((run : Run) → Parses run_format b run → r ≡ Ok run) →
+    Answers nothing_read 1 b r → IsReading run_format b r
 reading_from_answers b (Ok run) all f =
     let found = parses_from_rest b f.version f.jobs f.ticks f.rest f.text in
     subst (Parses run_format b) (sym f.is) found
@@ -391,4 +427,5 @@ one_reading_each = record { exists = reading_exists; single = one_reading run_fo
 
 -- what is written is read as it was
 pub run_of_text-text_of : (run : Run) → IsWithinLimits run → run_of_text (text_of run) ≡ Ok run
-run_of_text-text_of run h = run_of_text-parses (text_of run) run (record { within = h; text = record { version = Second; told = λ k none b. λ e. absurd (cc); text = refl } })
+run_of_text-text_of run h = run_of_text-parses (text_of run) run
+    (record { within = h; text = record { version = Second; told = λ k none b. λ e. absurd (cc); text = refl } })

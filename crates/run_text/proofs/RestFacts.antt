@@ -1,5 +1,6 @@
 -- What may follow the lines so far: jobs and ticks, and their text.
-use Rattle.std.proofs.Common.{◌≡◌, ℕ, zero, suc, ◌+◌, ◌-◌, ◌≤◌, ◌==◌, true, false, cond, List, [], ◌∷◌, ◌++◌, length, codes, refl, sym, ap, subst, ◌∙◌, arith, Option, Some, None, append_assoc, length-append, add-zero, add-one, inl, inr}
+use Rattle.std.proofs.Common.{◌≡◌, ℕ, zero, suc, ◌+◌, ◌-◌, ◌≤◌, ◌==◌, true, false, cond, List, [], ◌∷◌, ◌++◌, length, codes, refl, sym, ap, subst}
+use Rattle.std.proofs.Common.{◌∙◌, arith, Option, Some, None, append_assoc, length-append, add-zero, add-one, inl, inr}
 use Rattle.std.specs.Prelude.{replicate}
 use Rattle.std.specs.List.{All, flat_map}
 use Rattle.std.specs.Option.{option_map, option_and_then}
@@ -21,7 +22,10 @@ use Rattle.run_text.specs.Lines.{version_of, counts_of, job_of, stretch_of}
 use Rattle.run_text.specs.Parts.{Part, part, before_jobs, is_repeated, with_stretch, after_at, after_line, IsSmall, jobs_to_come, ticks_to_come}
 use Rattle.run_text.proofs.WordFacts.{Lacks, text_is, words_of-same}
 use Rattle.run_text.proofs.StretchFacts.{repeats, stretches-equal, begins}
-use Rattle.run_text.proofs.LineFacts.{IsJobIn, lacks_from_test, head-lacks, version_of-head, version_back, counts_front, counts_front-words, counts_front-lacks, counts_line_is, counts_of-front, counts_back, stretch_front, stretch_front-words, stretch_front-lacks, stretch_line_is, stretch_of-front, stretch_back, job_front, job_front-words, job_front-lacks, job_line_is, job_of-front, job_back}
+use Rattle.run_text.proofs.LineFacts.{IsJobIn, lacks_from_test, head-lacks, version_of-head, version_back, counts_front, counts_front-words}
+use Rattle.run_text.proofs.LineFacts.{counts_front-lacks, counts_line_is, counts_of-front, counts_back, stretch_front, stretch_front-words}
+use Rattle.run_text.proofs.LineFacts.{stretch_front-lacks, stretch_line_is, stretch_of-front, stretch_back, job_front, job_front-words}
+use Rattle.run_text.proofs.LineFacts.{job_front-lacks, job_line_is, job_of-front, job_back}
 
 -- the text of ticks, and the last line
 abbrev pub ticks_text : List Tick → List ℕ
@@ -82,11 +86,14 @@ repeats_none : (ticks : List Tick) → repeats None ticks ≡ false
 repeats_none [] = refl
 repeats_none (x ∷ ticks) = refl
 
-to_before : (v : Version) (left room t have : ℕ) (version : Version) (jobs : List Job) (ticks : List Tick) → JobsRest v left room t have jobs ticks → Rest (before_jobs v left room t) have version jobs ticks
-to_before v zero room t have version jobs ticks r = record { no_jobs = nil_from_length jobs r.jobs_left; ticks_left = r.ticks_left; all_ticks = rw add-zero at r.all_ticks; apart = repeats_none ticks }
+to_before : (v : Version) (left room t have : ℕ) (version : Version) (jobs : List Job) (ticks : List Tick) →
+    JobsRest v left room t have jobs ticks → Rest (before_jobs v left room t) have version jobs ticks
+to_before v zero room t have version jobs ticks r =
+    record { no_jobs = nil_from_length jobs r.jobs_left; ticks_left = r.ticks_left; all_ticks = rw add-zero at r.all_ticks; apart = repeats_none ticks }
 to_before v (suc left) room t have version jobs ticks r = r
 
-from_before : (v : Version) (left room t have : ℕ) (version : Version) (jobs : List Job) (ticks : List Tick) → Rest (before_jobs v left room t) have version jobs ticks → JobsRest v left room t have jobs ticks
+from_before : (v : Version) (left room t have : ℕ) (version : Version) (jobs : List Job) (ticks : List Tick) →
+    Rest (before_jobs v left room t) have version jobs ticks → JobsRest v left room t have jobs ticks
 from_before v zero room t have version jobs ticks r =
     let none : [] ≡ jobs = sym r.no_jobs in
     let same : have ≡ have + 0 = omega arith in
@@ -100,7 +107,8 @@ from_before v zero room t have version jobs ticks r =
     subst (λ (js : List Job). JobsRest v 0 room t have js ticks) none empty
 from_before v (suc left) room t have version jobs ticks r = r
 
-body_before : (v : Version) (left room t : ℕ) (version : Version) (jobs : List Job) (ticks : List Tick) → length jobs ≡ left → rest_text (before_jobs v left room t) version jobs ticks ≡ body v jobs ticks
+body_before : (v : Version) (left room t : ℕ) (version : Version) (jobs : List Job) (ticks : List Tick) → length jobs ≡ left →
+    rest_text (before_jobs v left room t) version jobs ticks ≡ body v jobs ticks
 body_before v zero room t version jobs ticks none = ap (λ (js : List Job). body v js ticks) (sym (nil_from_length jobs none))
 body_before v (suc left) room t version jobs ticks many = refl
 
@@ -117,7 +125,8 @@ pub record Goes (p : Part) (version : Version) (jobs : List Job) (ticks : List T
   pub same_jobs : next.jobs ++ more_jobs ≡ p.jobs ++ jobs
   pub same_ticks : next.ticks ++ more_ticks ≡ p.ticks ++ ticks
 
-goes_head : (js : List Job) (xs : List Tick) (version : Version) (jobs : List Job) (ticks : List Tick) → LimitsRest version (length js) jobs ticks → Goes (part Head js xs) version jobs ticks
+goes_head : (js : List Job) (xs : List Tick) (version : Version) (jobs : List Job) (ticks : List Tick) →
+    LimitsRest version (length js) jobs ticks → Goes (part Head js xs) version jobs ticks
 goes_head js xs version jobs ticks r = record {
   line = head_of version;
   one = head-lacks version;
@@ -131,7 +140,8 @@ goes_head js xs version jobs ticks r = record {
   same_ticks = refl;
 }
 
-goes_counts : (v : Version) (js : List Job) (xs : List Tick) (version : Version) (jobs : List Job) (ticks : List Tick) → LimitsRest v (length js) jobs ticks → Goes (part (Counts v) js xs) version jobs ticks
+goes_counts : (v : Version) (js : List Job) (xs : List Tick) (version : Version) (jobs : List Job) (ticks : List Tick) →
+    LimitsRest v (length js) jobs ticks → Goes (part (Counts v) js xs) version jobs ticks
 goes_counts v js xs version jobs ticks r =
     let j = length jobs in
     let t = length ticks in
@@ -142,8 +152,10 @@ goes_counts v js xs version jobs ticks r =
       goes = ap (option_map (λ (n : ℕ × ℕ). part (before_jobs v n.0 1000000 n.1) js xs)) (counts_of-front j t r.few_jobs r.few_ticks);
       more_jobs = jobs;
       more_ticks = ticks;
-      rest = to_before v j 1000000 t (length js) version jobs ticks (record { jobs_left = refl; ticks_left = refl; few_segments = r.few_segments; all_jobs = r.all_jobs; all_ticks = r.all_ticks });
-      text = counts_line_is (record { jobs = jobs; ticks = ticks }) (body v jobs ticks) ∙ ap (λ (l : List ℕ). counts_front j t ++ 10 ∷ l) (sym (body_before v j 1000000 t version jobs ticks refl));
+      rest = to_before v j 1000000 t (length js) version jobs ticks
+          (record { jobs_left = refl; ticks_left = refl; few_segments = r.few_segments; all_jobs = r.all_jobs; all_ticks = r.all_ticks });
+      text = counts_line_is (record { jobs = jobs; ticks = ticks }) (body v jobs ticks) ∙
+          ap (λ (l : List ℕ). counts_front j t ++ 10 ∷ l) (sym (body_before v j 1000000 t version jobs ticks refl));
       same_jobs = refl;
       same_ticks = refl;
     }
@@ -160,7 +172,8 @@ all_first P x xs h = h 0 x (omega arith)
 all_more : {X : Type 0} (P : X → Type 0) (x : X) (xs : List X) → All P (x ∷ xs) → All P xs
 all_more P x xs h = λ k d less. h (suc k) d (omega arith)
 
-goes_job : (v : Version) (js : List Job) (xs : List Tick) (after room t : ℕ) (version : Version) (jobs : List Job) (ticks : List Tick) → JobsRest v (suc after) room t (length js) jobs ticks
+goes_job : (v : Version) (js : List Job) (xs : List Tick) (after room t : ℕ) (version : Version) (jobs : List Job)
+    (ticks : List Tick) → JobsRest v (suc after) room t (length js) jobs ticks
     → Goes (part (Jobs v after room t) js xs) version jobs ticks
 goes_job v js xs after room t version [] ticks r = absurd (omega (arith, r.jobs_left))
 goes_job v js xs after room t version (j ∷ jobs) ticks r =
@@ -183,12 +196,14 @@ goes_job v js xs after room t version (j ∷ jobs) ticks r =
         all_jobs = all_more (IsJobIn v) j jobs r.all_jobs;
         all_ticks = subst (λ (n : ℕ). All (IsTickOf n) ticks) have r.all_ticks;
       });
-      text = job_text v j jobs ticks ∙ ap (λ (l : List ℕ). job_front v j ++ 10 ∷ l) (sym (body_before v after (room - length j.segs) t version jobs ticks left));
+      text = job_text v j jobs ticks ∙
+          ap (λ (l : List ℕ). job_front v j ++ 10 ∷ l) (sym (body_before v after (room - length j.segs) t version jobs ticks left));
       same_jobs = append_assoc js (j ∷ []) jobs;
       same_ticks = refl;
     }
 
-stretch_text : (x : Tick) (n : ℕ) (rest : List Tick) → 1 ≤ n → repeats (Some x) rest ≡ false → ticks_text (replicate n x ++ rest) ≡ stretch_front x n ++ 10 ∷ ticks_text rest
+stretch_text : (x : Tick) (n : ℕ) (rest : List Tick) → 1 ≤ n → repeats (Some x) rest ≡ false →
+    ticks_text (replicate n x ++ rest) ≡ stretch_front x n ++ 10 ∷ ticks_text rest
 stretch_text x n rest some apart =
     ap (λ (ss : List Stretch). flat_map stretch_line ss ++ codes "end\n") (stretches-equal x n rest some apart)
     ∙ append_assoc (stretch_line (stretch x n)) (flat_map stretch_line (stretches_of rest)) (codes "end\n") ∙ stretch_line_is x n (ticks_text rest)
@@ -197,14 +212,16 @@ all_behind : {X : Type 0} (P : X → Type 0) (xs ys : List X) → All P (xs ++ y
 all_behind P [] ys h = h
 all_behind P (x ∷ xs) ys h = all_behind P xs ys (all_more P x (xs ++ ys) h)
 
-goes_stretch : (js : List Job) (xs : List Tick) (before : Option Tick) (left : ℕ) (version : Version) (ticks : List Tick) → length js ≤ 20000 → left ≤ 100000 → (left == 0) ≡ false → TicksRest before left (length js) [] ticks
+goes_stretch : (js : List Job) (xs : List Tick) (before : Option Tick) (left : ℕ) (version : Version) (ticks : List Tick) →
+    length js ≤ 20000 → left ≤ 100000 → (left == 0) ≡ false → TicksRest before left (length js) [] ticks
     → Goes (part (Ticks before left) js xs) version [] ticks
 goes_stretch js xs before left version [] small few some r = absurd (both_ways (left == 0) some (eq-eqb left 0 (sym r.ticks_left)))
 goes_stretch js xs before left version (x ∷ ticks) small few some r =
     let b = begins x ticks in
     let n = suc b.more in
     let of : IsTickOf (length js) x = all_first (IsTickOf (length js)) x ticks r.all_ticks in
-    let sum : length (x ∷ ticks) ≡ n + length b.rest = ap length b.is ∙ length-append (replicate n x) b.rest ∙ ap (λ (k : ℕ). k + length b.rest) (length-replicate n x) in
+    let sum : length (x ∷ ticks) ≡ n + length b.rest = ap length b.is ∙ length-append (replicate n x) b.rest ∙
+    ap (λ (k : ℕ). k + length b.rest) (length-replicate n x) in
     let le : n ≤ left = omega (arith, sum, r.ticks_left) in
     let read : stretch_of (length js) left (stretch_front x n) ≡ Some (stretch x n) = stretch_of-front (length js) left x n small few of (omega arith) le in
     let apart : is_repeated before x ≡ false = r.apart in
@@ -226,7 +243,8 @@ goes_stretch js xs before left version (x ∷ ticks) small few some r =
       same_ticks = append_assoc xs (replicate n x) b.rest ∙ ap (λ (l : List Tick). xs ++ l) (sym b.is);
     }
 
-goes_end : (js : List Job) (xs : List Tick) (before : Option Tick) (left : ℕ) (version : Version) (jobs : List Job) (ticks : List Tick) → (left == 0) ≡ true → TicksRest before left (length js) jobs ticks → Goes (part (Ticks before left) js xs) version jobs ticks
+goes_end : (js : List Job) (xs : List Tick) (before : Option Tick) (left : ℕ) (version : Version) (jobs : List Job)
+    (ticks : List Tick) → (left == 0) ≡ true → TicksRest before left (length js) jobs ticks → Goes (part (Ticks before left) js xs) version jobs ticks
 goes_end js xs before left version jobs ticks none r =
     let empty : Goes (part (Ticks before left) js xs) version [] [] = record {
       line = codes "end";
@@ -241,18 +259,24 @@ goes_end js xs before left version jobs ticks none r =
       same_ticks = refl;
     } in
     let no_ticks : [] ≡ ticks = sym (nil_from_length ticks (r.ticks_left ∙ eqb-true left 0 none)) in
-    subst (λ (l : List Job). Goes (part (Ticks before left) js xs) version l ticks) (sym r.no_jobs) (subst (λ (l : List Tick). Goes (part (Ticks before left) js xs) version [] l) no_ticks empty)
+    subst (λ (l : List Job). Goes (part (Ticks before left) js xs) version l ticks) (sym r.no_jobs)
+    (subst (λ (l : List Tick). Goes (part (Ticks before left) js xs) version [] l) no_ticks empty)
 
-goes_ticks : (js : List Job) (xs : List Tick) (before : Option Tick) (left : ℕ) (version : Version) (jobs : List Job) (ticks : List Tick) → length js ≤ 20000 → left ≤ 100000 → TicksRest before left (length js) jobs ticks → Goes (part (Ticks before left) js xs) version jobs ticks
+goes_ticks : (js : List Job) (xs : List Tick) (before : Option Tick) (left : ℕ) (version : Version) (jobs : List Job)
+    (ticks : List Tick) → length js ≤ 20000 → left ≤ 100000 → TicksRest before left (length js) jobs ticks →
+    Goes (part (Ticks before left) js xs) version jobs ticks
 goes_ticks js xs before left version jobs ticks small few r = elim (cases_Bool (left == 0)) [
   | inl none ↦ goes_end js xs before left version jobs ticks none r
   | inr some ↦
-      (let empty : TicksRest before left (length js) [] ticks = record { no_jobs = refl; ticks_left = r.ticks_left; all_ticks = r.all_ticks; apart = r.apart } in
-      subst (λ (l : List Job). Goes (part (Ticks before left) js xs) version l ticks) (sym r.no_jobs) (goes_stretch js xs before left version ticks small few some empty))
+      (let empty : TicksRest before left (length js) [] ticks =
+      record { no_jobs = refl; ticks_left = r.ticks_left; all_ticks = r.all_ticks; apart = r.apart } in
+      subst (λ (l : List Job). Goes (part (Ticks before left) js xs) version l ticks) (sym r.no_jobs)
+      (goes_stretch js xs before left version ticks small few some empty))
 ]
 
 -- what follows begins with a line that may come
-pub goes : (stage : Stage) (js : List Job) (xs : List Tick) (version : Version) (jobs : List Job) (ticks : List Tick) → IsSmall (part stage js xs) → (stage ≡ Over → ⊥) → Rest stage (length js) version jobs ticks
+pub goes : (stage : Stage) (js : List Job) (xs : List Tick) (version : Version) (jobs : List Job) (ticks : List Tick) →
+    IsSmall (part stage js xs) → (stage ≡ Over → ⊥) → Rest stage (length js) version jobs ticks
     → Goes (part stage js xs) version jobs ticks
 goes Head js xs version jobs ticks small some r = goes_head js xs version jobs ticks r
 goes (Counts v) js xs version jobs ticks small some r = goes_counts v js xs version jobs ticks r
@@ -283,7 +307,8 @@ ticks_before : (v : Version) (left room t : ℕ) → ticks_to_come (before_jobs 
 ticks_before v zero room t = refl
 ticks_before v (suc left) room t = refl
 
-leads_head : (js : List Job) (xs : List Tick) (line : List ℕ) (q : Part) (o : Option Version) → IsSmall (part Head js xs) → version_of line ≡ o → option_map (λ v. part (Counts v) js xs) o ≡ Some q → Leads (part Head js xs) q line
+leads_head : (js : List Job) (xs : List Tick) (line : List ℕ) (q : Part) (o : Option Version) → IsSmall (part Head js xs) →
+    version_of line ≡ o → option_map (λ v. part (Counts v) js xs) o ≡ Some q → Leads (part Head js xs) q line
 leads_head js xs line q None small is e = absurd (cc)
 leads_head js xs line q (Some v) small is e =
     let same : part (Counts v) js xs ≡ q = cc in
@@ -302,13 +327,15 @@ leads_head js xs line q (Some v) small is e =
     } in
     subst (λ (q : Part). Leads (part Head js xs) q line) same found
 
-leads_counts : (v : Version) (js : List Job) (xs : List Tick) (line : List ℕ) (q : Part) (o : Option (ℕ × ℕ)) → IsSmall (part (Counts v) js xs) → counts_of line ≡ o → option_map (λ n. part (before_jobs v n.0 1000000 n.1) js xs) o ≡ Some q
+leads_counts : (v : Version) (js : List Job) (xs : List Tick) (line : List ℕ) (q : Part) (o : Option (ℕ × ℕ)) →
+    IsSmall (part (Counts v) js xs) → counts_of line ≡ o → option_map (λ n. part (before_jobs v n.0 1000000 n.1) js xs) o ≡ Some q
     → Leads (part (Counts v) js xs) q line
 leads_counts v js xs line q None small is e = absurd (cc)
 leads_counts v js xs line q (Some (j, t)) small is e =
     let same : part (before_jobs v j 1000000 t) js xs ≡ q = cc in
     let read = counts_back (words_of line) j t is in
-    let front : line ≡ counts_front j t = words_of-same line (counts_front j t) (read.0 ∙ sym (counts_front-words j t (omega (arith, read.1)) (omega (arith, read.2)))) in
+    let front : line ≡ counts_front j t =
+    words_of-same line (counts_front j t) (read.0 ∙ sym (counts_front-words j t (omega (arith, read.1)) (omega (arith, read.2)))) in
     let found : Leads (part (Counts v) js xs) (part (before_jobs v j 1000000 t) js xs) line = record {
       small = record { jobs = omega (arith, small.jobs, jobs_before v j 1000000 t, read.1); ticks = omega (arith, ticks_before v j 1000000 t, read.2) };
       back = λ version jobs ticks rest.
@@ -335,7 +362,8 @@ leads_counts v js xs line q (Some (j, t)) small is e =
     } in
     subst (λ (q : Part). Leads (part (Counts v) js xs) q line) same found
 
-leads_job : (v : Version) (js : List Job) (xs : List Tick) (after room t : ℕ) (line : List ℕ) (q : Part) (o : Option Job) → IsSmall (part (Jobs v after room t) js xs) → job_of v room line ≡ o
+leads_job : (v : Version) (js : List Job) (xs : List Tick) (after room t : ℕ) (line : List ℕ) (q : Part) (o : Option Job) →
+    IsSmall (part (Jobs v after room t) js xs) → job_of v room line ≡ o
     → option_map (λ j. part (before_jobs v after (room - length j.segs) t) (js ++ j ∷ []) xs) o ≡ Some q → Leads (part (Jobs v after room t) js xs) q line
 leads_job v js xs after room t line q None small is e = absurd (cc)
 leads_job v js xs after room t line q (Some j) small is e =
@@ -346,7 +374,11 @@ leads_job v js xs after room t line q (Some j) small is e =
     let one : length (js ++ j ∷ []) ≡ length js + 1 = length-append js (j ∷ []) in
     let have : length (js ++ j ∷ []) + after ≡ length js + suc after = omega (arith, one) in
     let found : Leads (part (Jobs v after room t) js xs) (part next (js ++ j ∷ []) xs) line = record {
-      small = record { jobs = omega (arith, small.jobs, one, jobs_before v after (room - length j.segs) t); ticks = omega (arith, small.ticks, ticks_before v after (room - length j.segs) t) };
+      small = record {
+        jobs = omega (arith, small.jobs, one, jobs_before v after (room - length j.segs) t);
+        ticks =
+            omega (arith, small.ticks, ticks_before v after (room - length j.segs) t);
+      };
       back = λ version jobs ticks rest.
           let r = from_before v after (room - length j.segs) t (length (js ++ j ∷ [])) version jobs ticks rest in
           record {
@@ -360,14 +392,16 @@ leads_job v js xs after room t line q (Some j) small is e =
               all_jobs = All-cons (IsJobIn v) j jobs read.job r.all_jobs;
               all_ticks = subst (λ (n : ℕ). All (IsTickOf n) ticks) have r.all_ticks;
             };
-            text = job_text v j jobs ticks ∙ ap (λ (l : List ℕ). l ++ 10 ∷ body v jobs ticks) (sym front) ∙ ap (λ (l : List ℕ). line ++ 10 ∷ l) (sym (body_before v after (room - length j.segs) t version jobs ticks (omega (arith, r.jobs_left))));
+            text = job_text v j jobs ticks ∙ ap (λ (l : List ℕ). l ++ 10 ∷ body v jobs ticks) (sym front) ∙
+                ap (λ (l : List ℕ). line ++ 10 ∷ l) (sym (body_before v after (room - length j.segs) t version jobs ticks (omega (arith, r.jobs_left))));
             same_jobs = sym (append_assoc js (j ∷ []) jobs);
             same_ticks = refl;
           };
     } in
     subst (λ (q : Part). Leads (part (Jobs v after room t) js xs) q line) same found
 
-leads_end : (js : List Job) (xs : List Tick) (before : Option Tick) (left : ℕ) (line : List ℕ) (q : Part) → IsSmall (part (Ticks before left) js xs) → (left == 0) ≡ true → cond (is_text line (codes "end")) (Some (part Over js xs)) None ≡ Some q
+leads_end : (js : List Job) (xs : List Tick) (before : Option Tick) (left : ℕ) (line : List ℕ) (q : Part) →
+    IsSmall (part (Ticks before left) js xs) → (left == 0) ≡ true → cond (is_text line (codes "end")) (Some (part Over js xs)) None ≡ Some q
     → Leads (part (Ticks before left) js xs) q line
 leads_end js xs before left line q small none = elim (cases_Bool (is_text line (codes "end"))) [
   | inl h ↦ rw h (λ e.
@@ -390,18 +424,22 @@ leads_end js xs before left line q small none = elim (cases_Bool (is_text line (
   | inr h ↦ rw h (λ e. absurd (cc))
 ]
 
-repeats_equal : (before : Option Tick) (x : Tick) (n : ℕ) (rest : List Tick) → 1 ≤ n → is_repeated before x ≡ false → repeats before (replicate n x ++ rest) ≡ false
+repeats_equal : (before : Option Tick) (x : Tick) (n : ℕ) (rest : List Tick) → 1 ≤ n → is_repeated before x ≡ false →
+    repeats before (replicate n x ++ rest) ≡ false
 repeats_equal before x zero rest some h = absurd (omega arith)
 repeats_equal before x (suc n) rest some h = h
 
-leads_one_stretch : (js : List Job) (xs : List Tick) (before : Option Tick) (left : ℕ) (line : List ℕ) (s : Stretch) → IsSmall (part (Ticks before left) js xs) → stretch_of (length js) left line ≡ Some s → is_repeated before s.tick ≡ false
+leads_one_stretch : (js : List Job) (xs : List Tick) (before : Option Tick) (left : ℕ) (line : List ℕ) (s : Stretch) →
+    IsSmall (part (Ticks before left) js xs) → stretch_of (length js) left line ≡ Some s → is_repeated before s.tick ≡ false
     → Leads (part (Ticks before left) js xs) (part (Ticks (Some s.tick) (left - s.count)) js (xs ++ replicate s.count s.tick)) line
 leads_one_stretch js xs before left line s small is apart =
     let x = s.tick in
     let n = s.count in
     let read = stretch_back (length js) left (words_of line) s is in
     let few : left ≤ 100000 = small.ticks in
-    let front : line ≡ stretch_front x n = words_of-same line (stretch_front x n) (read.words ∙ sym (stretch_front-words (length js) x n (omega (arith, small.jobs)) read.of (omega (arith, read.few)))) in
+    let front : line ≡ stretch_front x n =
+    words_of-same line (stretch_front x n)
+    (read.words ∙ sym (stretch_front-words (length js) x n (omega (arith, small.jobs)) read.of (omega (arith, read.few)))) in
     record {
       small = record { jobs = small.jobs; ticks = omega arith };
       back = λ version jobs ticks r. record {
@@ -420,7 +458,8 @@ leads_one_stretch js xs before left line s small is apart =
       };
     }
 
-leads_stretch : (js : List Job) (xs : List Tick) (before : Option Tick) (left : ℕ) (line : List ℕ) (q : Part) (o : Option Stretch) → IsSmall (part (Ticks before left) js xs) → stretch_of (length js) left line ≡ o
+leads_stretch : (js : List Job) (xs : List Tick) (before : Option Tick) (left : ℕ) (line : List ℕ) (q : Part)
+    (o : Option Stretch) → IsSmall (part (Ticks before left) js xs) → stretch_of (length js) left line ≡ o
     → option_and_then (with_stretch before left js xs) o ≡ Some q → Leads (part (Ticks before left) js xs) q line
 leads_stretch js xs before left line q None small is = λ e. absurd (cc)
 leads_stretch js xs before left line q (Some s) small is = elim (cases_Bool (is_repeated before s.tick)) [
@@ -430,14 +469,16 @@ leads_stretch js xs before left line q (Some s) small is = elim (cases_Bool (is_
       subst (λ (q : Part). Leads (part (Ticks before left) js xs) q line) same (leads_one_stretch js xs before left line s small is h))
 ]
 
-leads_ticks : (js : List Job) (xs : List Tick) (before : Option Tick) (left : ℕ) (line : List ℕ) (q : Part) → IsSmall (part (Ticks before left) js xs) → after_at (Ticks before left) js xs line ≡ Some q → Leads (part (Ticks before left) js xs) q line
+leads_ticks : (js : List Job) (xs : List Tick) (before : Option Tick) (left : ℕ) (line : List ℕ) (q : Part) →
+    IsSmall (part (Ticks before left) js xs) → after_at (Ticks before left) js xs line ≡ Some q → Leads (part (Ticks before left) js xs) q line
 leads_ticks js xs before left line q small = elim (cases_Bool (left == 0)) [
   | inl none ↦ rw none (λ e. leads_end js xs before left line q small none e)
   | inr some ↦ rw some (λ e. leads_stretch js xs before left line q (stretch_of (length js) left line) small refl e)
 ]
 
 -- a line that may come leads to the part after it
-pub leads : (stage : Stage) (js : List Job) (xs : List Tick) (line : List ℕ) (q : Part) → IsSmall (part stage js xs) → after_at stage js xs line ≡ Some q → Leads (part stage js xs) q line
+pub leads : (stage : Stage) (js : List Job) (xs : List Tick) (line : List ℕ) (q : Part) → IsSmall (part stage js xs) →
+    after_at stage js xs line ≡ Some q → Leads (part stage js xs) q line
 leads Head js xs line q small e = leads_head js xs line q (version_of line) small refl e
 leads (Counts v) js xs line q small e = leads_counts v js xs line q (counts_of line) small refl e
 leads (Jobs v after room t) js xs line q small e = leads_job v js xs after room t line q (job_of v room line) small refl e
@@ -452,7 +493,14 @@ pub record Completes (stage : Stage) (have : ℕ) : Type 0 where
   pub rest : Rest stage have version jobs ticks
 
 no_run : (version : Version) (have : ℕ) → LimitsRest version have [] []
-no_run version have = record { few_jobs = omega arith; few_ticks = omega arith; few_segments = omega arith; all_jobs = All-nil (IsJobIn version); all_ticks = All-nil (IsTickOf (have + 0)) }
+no_run version have = record {
+  few_jobs = omega arith;
+  few_ticks = omega arith;
+  few_segments = omega arith;
+  all_jobs =
+      All-nil (IsJobIn version);
+  all_ticks = All-nil (IsTickOf (have + 0));
+}
 
 abbrev pub blank_job : Job
 blank_job = record { task = 0; arrival = 0; release = 0; cost = 0; segs = [] }

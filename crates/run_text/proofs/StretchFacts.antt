@@ -1,4 +1,5 @@
-use Rattle.std.proofs.Common.{◌≡◌, ℕ, zero, suc, ◌+◌, ◌<◌, ◌≤◌, Bool, true, false, List, [], ◌∷◌, ◌++◌, length, get_or, drop, refl, sym, ◌∙◌, ap, subst, inl, inr, add_assoc, append_assoc, eq-eqb, arith, Option, Some}
+use Rattle.std.proofs.Common.{◌≡◌, ℕ, zero, suc, ◌+◌, ◌<◌, ◌≤◌, Bool, true, false, List, [], ◌∷◌, ◌++◌, length, get_or, drop, refl, sym, ◌∙◌, ap}
+use Rattle.std.proofs.Common.{subst, inl, inr, add_assoc, append_assoc, eq-eqb, arith, Option, Some}
 use Rattle.std.specs.Prelude.{replicate}
 use Rattle.std.specs.List.{All}
 use Rattle.std.proofs.lemmas.List.{replicate-append-replicate}
@@ -73,7 +74,8 @@ equal_front x (suc n) rest =
     ap (with_front x 1) (equal_front x n rest) ∙ front_more x 1 (suc n) (stretches_of rest) ∙ ap (λ (k : ℕ). with_front x k (stretches_of rest)) sum
 
 -- equal ticks before another one are a stretch
-pub stretches-equal : (x : Tick) (n : ℕ) (rest : List Tick) → 1 ≤ n → repeats (Some x) rest ≡ false → stretches_of (replicate n x ++ rest) ≡ stretch x n ∷ stretches_of rest
+pub stretches-equal : (x : Tick) (n : ℕ) (rest : List Tick) → 1 ≤ n → repeats (Some x) rest ≡ false →
+    stretches_of (replicate n x ++ rest) ≡ stretch x n ∷ stretches_of rest
 stretches-equal x zero rest some h = absurd (omega arith)
 stretches-equal x (suc n) rest some h = equal_front x n rest ∙ front_apart x (suc n) rest h
 
@@ -95,23 +97,32 @@ begins x (y ∷ ys) = elim (cases_Bool (is_same x y)) [
 ]
 
 -- the next tick joins the stretch
-pub stretches_same : (x : Tick) (n : ℕ) (xs : List Tick) (i : ℕ) (d : Tick) → i < length xs → is_same x (get_or xs i d) ≡ true → with_front x n (stretches_of (drop i xs)) ≡ with_front x (n + 1) (stretches_of (drop (i + 1) xs))
+pub stretches_same : (x : Tick) (n : ℕ) (xs : List Tick) (i : ℕ) (d : Tick) → i < length xs → is_same x (get_or xs i d) ≡ true →
+    with_front x n (stretches_of (drop i xs)) ≡ with_front x (n + 1) (stretches_of (drop (i + 1) xs))
 stretches_same x n xs i d l h =
     at_drop_more (λ ys. with_front x n (stretches_of ys)) xs i d l ∙ front_same x (get_or xs i d) n (stretches_of (drop (i + 1) xs)) h
 
 -- the next tick begins a stretch
-pub stretches_other : (x : Tick) (n : ℕ) (xs : List Tick) (i : ℕ) (d : Tick) → i < length xs → is_same x (get_or xs i d) ≡ false → with_front x n (stretches_of (drop i xs)) ≡ stretch x n ∷ with_front (get_or xs i d) 1 (stretches_of (drop (i + 1) xs))
+pub stretches_other : (x : Tick) (n : ℕ) (xs : List Tick) (i : ℕ) (d : Tick) → i < length xs → is_same x (get_or xs i d) ≡ false →
+    with_front x n (stretches_of (drop i xs)) ≡ stretch x n ∷ with_front (get_or xs i d) 1 (stretches_of (drop (i + 1) xs))
 stretches_other x n xs i d l h =
     at_drop_more (λ ys. with_front x n (stretches_of ys)) xs i d l ∙ front_other x (get_or xs i d) n (stretches_of (drop (i + 1) xs)) h
 
 -- what is written and what is left, when the next tick joins the stretch
-pub text_same : (text : List ℕ) (x : Tick) (n : ℕ) (xs : List Tick) (i : ℕ) (d : Tick) → i < length xs → is_same x (get_or xs i d) ≡ true → text ++ flat_map stretch_line (with_front x n (stretches_of (drop i xs))) ≡ text ++ flat_map stretch_line (with_front x (n + 1) (stretches_of (drop (i + 1) xs)))
+pub text_same : (text : List ℕ) (x : Tick) (n : ℕ) (xs : List Tick) (i : ℕ) (d : Tick) → i < length xs →
+    is_same x (get_or xs i d) ≡ true →
+    text ++ flat_map stretch_line (with_front x n (stretches_of (drop i xs))) ≡ text ++ flat_map stretch_line
+    (with_front x (n + 1) (stretches_of (drop (i + 1) xs)))
 text_same text x n xs i d l h = ap (λ ss. text ++ flat_map stretch_line ss) (stretches_same x n xs i d l h)
 
 -- the same, when the next tick ends the stretch
-pub text_other : (text : List ℕ) (x : Tick) (n : ℕ) (xs : List Tick) (i : ℕ) (d : Tick) → i < length xs → is_same x (get_or xs i d) ≡ false → text ++ flat_map stretch_line (with_front x n (stretches_of (drop i xs))) ≡ (text ++ stretch_line (stretch x n)) ++ flat_map stretch_line (with_front (get_or xs i d) 1 (stretches_of (drop (i + 1) xs)))
+pub text_other : (text : List ℕ) (x : Tick) (n : ℕ) (xs : List Tick) (i : ℕ) (d : Tick) → i < length xs →
+    is_same x (get_or xs i d) ≡ false →
+    text ++ flat_map stretch_line (with_front x n (stretches_of (drop i xs))) ≡
+    (text ++ stretch_line (stretch x n)) ++ flat_map stretch_line (with_front (get_or xs i d) 1 (stretches_of (drop (i + 1) xs)))
 text_other text x n xs i d l h =
-    ap (λ ss. text ++ flat_map stretch_line ss) (stretches_other x n xs i d l h) ∙ sym (append_assoc text (stretch_line (stretch x n)) (flat_map stretch_line (with_front (get_or xs i d) 1 (stretches_of (drop (i + 1) xs)))))
+    ap (λ ss. text ++ flat_map stretch_line ss) (stretches_other x n xs i d l h) ∙
+    sym (append_assoc text (stretch_line (stretch x n)) (flat_map stretch_line (with_front (get_or xs i d) 1 (stretches_of (drop (i + 1) xs)))))
 
 ticks_of-front : (x : Tick) (n : ℕ) (ss : List Stretch) → ticks_of (with_front x n ss) ≡ replicate n x ++ ticks_of ss
 ticks_of-front x n [] = refl
@@ -119,7 +130,8 @@ ticks_of-front x n (s ∷ ss) = elim (cases_Bool (is_same x s.tick)) [
   | inl e ↦
       (let rest = ticks_of ss in
       let same : x ≡ s.tick = same_is x s.tick e in
-      rw e (ap (λ (l : List Tick). l ++ rest) (sym (replicate-append-replicate n s.count x)) ∙ append_assoc (replicate n x) (replicate s.count x) rest ∙ ap (λ (y : Tick). replicate n x ++ (replicate s.count y ++ rest)) same))
+      rw e (ap (λ (l : List Tick). l ++ rest) (sym (replicate-append-replicate n s.count x)) ∙
+      append_assoc (replicate n x) (replicate s.count x) rest ∙ ap (λ (y : Tick). replicate n x ++ (replicate s.count y ++ rest)) same))
   | inr e ↦ rw e refl
 ]
 

@@ -1,5 +1,6 @@
 -- Words between spaces, and lines between newlines.
-use Rattle.std.proofs.Common.{◌≡◌, ℕ, zero, suc, ◌+◌, ◌<◌, ◌≤◌, ◌^◌, ◌%◌, ◌==◌, true, false, nat_lt, List, [], ◌∷◌, ◌++◌, length, take, drop, get_or, refl, sym, ap, ◌∙◌, arith, decimal, Some, None, inl, inr, map, append-nil}
+use Rattle.std.proofs.Common.{◌≡◌, ℕ, zero, suc, ◌+◌, ◌<◌, ◌≤◌, ◌^◌, ◌%◌, ◌==◌, true, false, nat_lt, List, [], ◌∷◌, ◌++◌, length, take, drop, get_or}
+use Rattle.std.proofs.Common.{refl, sym, ap, ◌∙◌, arith, decimal, Some, None, inl, inr, map, append-nil}
 use Rattle.std.specs.List.{AllByRecursion, flat_map, position, position_or_len}
 use Rattle.std.specs.Cmp.Lexicographic.{bytes_decides}
 use Rattle.std.proofs.lemmas.Fmt.{decimal_by_steps}
@@ -104,9 +105,11 @@ pub words_of-same : (a b : List ℕ) → words_of a ≡ words_of b → a ≡ b
 words_of-same a b e = sym (spaced-words_of a) ∙ ap spaced e ∙ spaced-words_of b
 
 -- the words of numbers behind spaces
-pub words_of-numbers : (w : List ℕ) (ns : List ℕ) → Lacks 32 w → AllByRecursion (λ n. n < 2 ^ 64) ns → words_of (w ++ flat_map segment_text ns) ≡ w ∷ map decimal ns
+pub words_of-numbers : (w : List ℕ) (ns : List ℕ) → Lacks 32 w → AllByRecursion (λ n. n < 2 ^ 64) ns →
+    words_of (w ++ flat_map segment_text ns) ≡ w ∷ map decimal ns
 words_of-numbers w [] h all = words_last (w ++ []) (lacks_append 32 w [] h tt) ∙ ap (λ (v : List ℕ). v ∷ []) (append-nil w)
-words_of-numbers w (n ∷ ns) h all = words_more w (decimal n ++ flat_map segment_text ns) h ∙ ap (λ ws. w ∷ ws) (words_of-numbers (decimal n) ns (decimal_lacks 32 n (omega arith) all.0) all.1)
+words_of-numbers w (n ∷ ns) h all = words_more w (decimal n ++ flat_map segment_text ns) h ∙
+    ap (λ ws. w ∷ ws) (words_of-numbers (decimal n) ns (decimal_lacks 32 n (omega arith) all.0) all.1)
 
 pub text_is : (a b : List ℕ) → is_text a b ≡ true → a ≡ b
 text_is a b h = (bytes_decides a b).0 h

@@ -22,7 +22,8 @@ both _ _ = None
 
 -- the numbers of jobs and ticks of the words jobs J ticks T
 abbrev pub counts_from : List (List ℕ) → Option (ℕ × ℕ)
-counts_from (a ∷ (j ∷ (b ∷ (t ∷ [])))) = if is_text a (codes "jobs") && is_text b (codes "ticks") then both (number_in 0 most_jobs j) (number_in 0 most_ticks t) else None
+counts_from (a ∷ (j ∷ (b ∷ (t ∷ [])))) = if is_text a (codes "jobs") && is_text b (codes "ticks") then both
+    (number_in 0 most_jobs j) (number_in 0 most_ticks t) else None
 counts_from _ = None
 
 -- the line of the counts

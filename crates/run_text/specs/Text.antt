@@ -1,5 +1,6 @@
 -- The texts of each run.
-use Rattle.std.specs.Prelude.{◌≡◌, ℕ, ◌+◌, ◌*◌, ◌<◌, ◌≤◌, ◌==◌, Bool, true, false, List, [], ◌∷◌, ◌++◌, length, codes, decimal, All, flat_map, sum_by, if◌then◌else◌}
+use Rattle.std.specs.Prelude.{◌≡◌, ℕ, ◌+◌, ◌*◌, ◌<◌, ◌≤◌, ◌==◌, Bool, true, false, List, [], ◌∷◌, ◌++◌, length, codes, decimal, All, flat_map, sum_by}
+use Rattle.std.specs.Prelude.{if◌then◌else◌}
 use Rattle.lists.specs.Limits.{greatest_number, most_jobs, most_ticks, most_segments}
 use Rattle.poet_io.specs.Texts.{Format}
 use Rattle.task_sheet.specs.declared.tasks.Job.{Job}

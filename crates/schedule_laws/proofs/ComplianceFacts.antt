@@ -11,7 +11,8 @@ use Rattle.run_model.specs.Runs.{job_at, is_on, ticks_in}
 use Rattle.run_model.proofs.ServiceFacts.{step_cases}
 use Rattle.schedule_laws.specs.Compliance.{IsSupplied, IsWorkConserving, KeepsSegments, KeepsPolicy, IsCompliant}
 use Rattle.schedule_laws.specs.Tests.{is_short, is_idle_broken, is_segment_broken, is_priority_broken, PassesTests}
-use Rattle.schedule_laws.proofs.TestFacts.{fit_from, fit_to, released_from, released_to, valid_from, valid_to, short_from, short_to, idle_from, idle_to, segment_from, segment_to, priority_from, priority_to}
+use Rattle.schedule_laws.proofs.TestFacts.{fit_from, fit_to, released_from, released_to, valid_from, valid_to, short_from, short_to, idle_from}
+use Rattle.schedule_laws.proofs.TestFacts.{idle_to, segment_from, segment_to, priority_from, priority_to}
 use Rattle.schedule_laws.proofs.CrowdFacts.{ends_suffice, within_free}
 
 module _ (p : PolicyMeaning) (m : CutMeaning) (sbf : ℕ → ℕ) (sheet : SheetParts) (ok : IsValidSheet sheet) (run : Run) where
@@ -26,14 +27,16 @@ module _ (p : PolicyMeaning) (m : CutMeaning) (sbf : ℕ → ℕ) (sheet : Sheet
 
   segments_from : PassesTests p m sbf sheet run → KeepsSegments m sheet run
   segments_from tests t k b c on inside = elim (step_cases run k t b) [
-    | inl other ↦ absurd (both_ways (is_segment_broken m sheet run t k) (tests.segments t k b c) (segment_to m sheet run t k (record { supplied = on; inside = inside; other = other.other })))
+    | inl other ↦ absurd (both_ways (is_segment_broken m sheet run t k) (tests.segments t k b c)
+        (segment_to m sheet run t k (record { supplied = on; inside = inside; other = other.other })))
     | inr same ↦ same.is
   ]
 
   policy_from : PassesTests p m sbf sheet run → KeepsPolicy p m sheet run
   policy_from tests t k n b runs cut waits = elim (cases_Bool (key_le (p.key sheet (job_at run k)) (p.key sheet (job_at run n)))) [
     | inl urgent ↦ urgent
-    | inr late ↦ absurd (both_ways (is_priority_broken p m sheet run t n) (tests.policy t n b waits.listed) (priority_to p m sheet run t n (record { job = k; runs = runs; cut = cut; waits = waits; urgent = late })))
+    | inr late ↦ absurd (both_ways (is_priority_broken p m sheet run t n) (tests.policy t n b waits.listed)
+        (priority_to p m sheet run t n (record { job = k; runs = runs; cut = cut; waits = waits; urgent = late })))
   ]
 
   pub complies : PassesTests p m sbf sheet run → IsCompliant p m sbf sheet run
@@ -51,11 +54,13 @@ module _ (p : PolicyMeaning) (m : CutMeaning) (sbf : ℕ → ℕ) (sheet : Sheet
   }
 
   never_short : IsCompliant p m sbf sheet run → (u : ℕ) → u ≤ length run.ticks → is_short sbf run u ≡ false
-  never_short c u l = false_from_ne_true (is_short sbf run u) (λ h. let short = short_from sbf run u h in omega (arith, short.few, c.supplied short.start u short.within l))
+  never_short c u l = false_from_ne_true (is_short sbf run u)
+      (λ h. let short = short_from sbf run u h in omega (arith, short.few, c.supplied short.start u short.within l))
 
   keeps_segments : IsCompliant p m sbf sheet run → (t k : ℕ) → t < length run.ticks → k < length run.jobs →
       is_segment_broken m sheet run t k ≡ false
-  keeps_segments c t k b listed = false_from_ne_true (is_segment_broken m sheet run t k) (λ h. let left = segment_from m sheet run t k h in left.other (c.segments t k b listed left.supplied left.inside))
+  keeps_segments c t k b listed = false_from_ne_true (is_segment_broken m sheet run t k)
+      (λ h. let left = segment_from m sheet run t k h in left.other (c.segments t k b listed left.supplied left.inside))
 
   keeps_policy : IsCompliant p m sbf sheet run → (t n : ℕ) → t < length run.ticks →
       is_priority_broken p m sheet run t n ≡ false

@@ -1,6 +1,8 @@
 -- The windows that decide whether arrivals are within the curves.
-use Rattle.std.proofs.Common.{◌≡◌, ℕ, zero, suc, ◌+◌, ◌-◌, ◌<◌, ◌≤◌, ◌⊎◌, ◌==◌, Bool, true, false, cond, length, take, count_by, refl, sym, ap, subst, inl, inr, arith, leb}
-use Rattle.std.proofs.lemmas.Bool.{cases_eq, and_parts, and_from, both_ways, false_from_ne_true, not-true, not-false, not_from_false, lt-leb, le-leb, leb-true, leb-false, eq-eqb}
+use Rattle.std.proofs.Common.{◌≡◌, ℕ, zero, suc, ◌+◌, ◌-◌, ◌<◌, ◌≤◌, ◌⊎◌, ◌==◌, Bool, true, false, cond, length, take, count_by, refl, sym, ap, subst}
+use Rattle.std.proofs.Common.{inl, inr, arith, leb}
+use Rattle.std.proofs.lemmas.Bool.{cases_eq, and_parts, and_from, both_ways, false_from_ne_true, not-true, not-false, not_from_false, lt-leb, le-leb}
+use Rattle.std.proofs.lemmas.Bool.{leb-true, leb-false, eq-eqb}
 use Rattle.std.proofs.lemmas.Bool.Decides.{nat_tests}
 use Rattle.std.proofs.Math.Seq.{take-length}
 use Rattle.lists.proofs.FirstFacts.{all_parts}
@@ -22,7 +24,13 @@ same_front : (p q : Job → Bool) (run : Run) (n : ℕ) → n ≤ length run.job
     count_by p (take n run.jobs) ≡ count_by q (take n run.jobs)
 same_front p q run zero h e = refl
 same_front p q run (suc n) h e =
-    omega (arith, same_front p q run n (omega arith) (λ k b. e k (omega arith)), count_more p run.jobs no_job n (omega arith), count_more q run.jobs no_job n (omega arith), ap (λ (b : Bool). cond {A = ℕ} b 1 0) (e n (omega arith)))
+    omega (
+      arith,
+      same_front p q run n (omega arith) (λ k b. e k (omega arith)),
+      count_more p run.jobs no_job n (omega arith),
+      count_more q run.jobs no_job n (omega arith),
+      ap (λ (b : Bool). cond {A = ℕ} b 1 0) (e n (omega arith)),
+    )
 
 -- tests that agree on every job count the same
 same_count : (p q : Job → Bool) (run : Run) →
@@ -53,9 +61,11 @@ arrivals_none run o t = omega (arith, same_count (arrives_in o t (t + 0)) (λ j.
 
 -- some job of task o arrives at t, or none does
 pub arrival_or_none : (run : Run) (o t : ℕ) →
-    ((k : ℕ) × (k < length run.jobs) × ((job_at run k).task ≡ o) × ((job_at run k).arrival ≡ t)) ⊎ ((k : ℕ) → k < length run.jobs → (job_at run k).task ≡ o → (job_at run k).arrival ≡ t → ⊥)
+    ((k : ℕ) × (k < length run.jobs) × ((job_at run k).task ≡ o) × ((job_at run k).arrival ≡ t)) ⊎ ((k : ℕ) →
+    k < length run.jobs → (job_at run k).task ≡ o → (job_at run k).arrival ≡ t → ⊥)
 arrival_or_none run o t =
-    let found = find_below (λ k. (job_at run k).task ≡ o → (job_at run k).arrival ≡ t → ⊥) (λ k. ((job_at run k).task ≡ o) × ((job_at run k).arrival ≡ t)) (λ k. elim (cases_eq (job_at run k).task o) [
+    let found = find_below (λ k. (job_at run k).task ≡ o → (job_at run k).arrival ≡ t →
+    ⊥) (λ k. ((job_at run k).task ≡ o) × ((job_at run k).arrival ≡ t)) (λ k. elim (cases_eq (job_at run k).task o) [
       | inr ne ↦ inl (λ e i. ne e)
       | inl e ↦ elim (cases_eq (job_at run k).arrival t) [ inl i ↦ inr (e, i) | inr ne ↦ inl (λ e i. ne i) ]
     ]) (length run.jobs) in
@@ -72,7 +82,11 @@ not_at_start o t u j h = grind (arith, nat_tests)
 pub none_arrive : (run : Run) (o t : ℕ) →
     ((k : ℕ) → k < length run.jobs → (job_at run k).task ≡ o → (job_at run k).arrival ≡ t → ⊥) →
     arrivals_of run o t (t + 1) ≡ 0
-none_arrive run o t none = omega (arith, arrivals_none run o t, same_arrivals run o t (t + suc 0) t (t + 0) (λ k c. not_at_end o t 0 (job_at run k) (λ e i. none k c e (omega arith))))
+none_arrive run o t none = omega (
+  arith,
+  arrivals_none run o t,
+  same_arrivals run o t (t + suc 0) t (t + 0) (λ k c. not_at_end o t 0 (job_at run k) (λ e i. none k c e (omega arith))),
+)
 
 window_length : (t d : ℕ) → t + suc d - t ≡ suc d
 window_length t d = omega arith
@@ -103,7 +117,8 @@ module _ (sheet : SheetParts) (ok : IsValidSheet sheet) (run : Run) where
       t ≤ (job_at run k).arrival → is_within_curve sheet run k t ≡ false → is_crowded_since sheet run k n ≡ true
   since_from k n t same at h many =
       and_from _ _ (eq-eqb (job_at run n).task (job_at run k).task same)
-      (and_from _ _ (le-leb (job_at run n).arrival (job_at run k).arrival (omega arith)) (not_from_false _ (subst (λ w. is_within_curve sheet run k w ≡ false) (sym at) many)))
+      (and_from _ _ (le-leb (job_at run n).arrival (job_at run k).arrival (omega arith))
+      (not_from_false _ (subst (λ w. is_within_curve sheet run k w ≡ false) (sym at) many)))
 
   -- windows that begin at an arrival suffice
   begins : (k t d : ℕ) → k < length run.jobs → IsOf sheet (job_at run k) → t + d ≡ (job_at run k).arrival →
@@ -126,7 +141,12 @@ module _ (sheet : SheetParts) (ok : IsValidSheet sheet) (run : Run) where
   since_crowds k n h =
       let same = and_parts ((job_at run n).task == (job_at run k).task) _ h in
       let late = and_parts (leb (job_at run n).arrival (job_at run k).arrival) _ same.1 in
-      crowded_to sheet run k (record { start = (job_at run n).arrival; within = leb-true (job_at run n).arrival (job_at run k).arrival late.0; many = leb-false _ _ (not-true _ late.1) })
+      crowded_to sheet run k (record {
+        start = (job_at run n).arrival;
+        within =
+            leb-true (job_at run n).arrival (job_at run k).arrival late.0;
+        many = leb-false _ _ (not-true _ late.1);
+      })
 
   -- windows that end with an arrival suffice
   windows : AreUncrowded sheet run → (o t d : ℕ) → o < length sheet.tasks →
@@ -135,10 +155,17 @@ module _ (sheet : SheetParts) (ok : IsValidSheet sheet) (run : Run) where
   windows free o t (suc d) b = elim (arrival_or_none run o (t + d)) [
     | inl k ↦
         let e : (job_at run k.0).arrival + 1 ≡ t + suc d = omega (arith, k.3) in
-        let of_o = subst (λ w. arrivals_of run w t ((job_at run k.0).arrival + 1) ≤ alpha_of (task_at sheet w).curve ((job_at run k.0).arrival + 1 - t)) k.2 (uncrowded_window sheet run k.0 t (free k.0 k.1) (omega (arith, k.3))) in
+        let of_o = subst (λ w. arrivals_of run w t ((job_at run k.0).arrival + 1) ≤ alpha_of (task_at sheet w).curve
+        ((job_at run k.0).arrival + 1 - t)) k.2 (uncrowded_window sheet run k.0 t (free k.0 k.1) (omega (arith, k.3))) in
         let at_end = subst (λ w. arrivals_of run o t w ≤ alpha_of (task_at sheet o).curve (w - t)) e of_o in
         rw window_length at at_end
-    | inr none ↦ omega (arith, windows free o t d b, alpha_mono (task_at sheet o).curve (ok.each o b).curve d (suc d) (omega arith), same_arrivals run o t (t + suc d) t (t + d) (λ k c. not_at_end o t d (job_at run k) (none k c)))
+    | inr none ↦ omega (
+      arith,
+      windows free o t d b,
+      alpha_mono (task_at sheet o).curve (ok.each o b).curve d (suc d)
+          (omega arith),
+      same_arrivals run o t (t + suc d) t (t + d) (λ k c. not_at_end o t d (job_at run k) (none k c)),
+    )
   ]
 
   pub ends_suffice : AreUncrowded sheet run → IsWithinCurves sheet run

@@ -1,6 +1,8 @@
 -- What each test tells.
 use Rattle.std.proofs.Common.{◌≡◌, ℕ, ◌+◌, ◌-◌, ◌<◌, ◌≤◌, ◌≢◌, ◌↔◌, ◌==◌, ◌&&◌, Bool, true, false, not, length, refl, sym, ◌∙◌, ap, arith, leb, ltb}
-use Rattle.std.proofs.lemmas.Bool.{true≢false, and_parts, and_from, and_left, and_right, both_ways, false_from_ne_true, not-true, not-false, not_from_true, not_from_false, leb-true, leb-false, lt-leb, le-leb, ltb-true, ltb-false, lt-ltb, le-ltb, eqb-true, eq-eqb}
+use Rattle.std.proofs.lemmas.Bool.{true≢false, and_parts, and_from, and_left, and_right, both_ways, false_from_ne_true, not-true, not-false}
+use Rattle.std.proofs.lemmas.Bool.{not_from_true, not_from_false, leb-true, leb-false, lt-leb, le-leb, ltb-true, ltb-false, lt-ltb, le-ltb, eqb-true}
+use Rattle.std.proofs.lemmas.Bool.{eq-eqb}
 use Rattle.lists.specs.Firsts.{all_below}
 use Rattle.lists.proofs.FirstFacts.{all_parts, all_from, all_broken, some_broken}
 use Rattle.curve.specs.Curves.{alpha_of}
@@ -17,7 +19,9 @@ use Rattle.run_model.specs.Runs.{job_at, tick_at, runs, is_on, service_of, ticks
 use Rattle.run_model.proofs.PendingFacts.{pending_from, pending_to}
 use Rattle.run_model.proofs.ServiceFacts.{runs_tells, runs_self}
 use Rattle.schedule_laws.specs.Compliance.{arrivals_of, can_cut, JobFits, IsReleased, MayRun}
-use Rattle.schedule_laws.specs.Tests.{does_fit, is_before, is_timely, is_overtaken, is_release_broken, holds_back, may_run, may_be_at, is_valid_at, is_within_curve, is_crowded, is_supplied, is_short, is_idle, is_idle_broken, is_segment_broken, is_more_urgent, is_priority_broken}
+use Rattle.schedule_laws.specs.Tests.{does_fit, is_before, is_timely, is_overtaken, is_release_broken, holds_back, may_run, may_be_at, is_valid_at}
+use Rattle.schedule_laws.specs.Tests.{is_within_curve, is_crowded, is_supplied, is_short, is_idle, is_idle_broken, is_segment_broken, is_more_urgent}
+use Rattle.schedule_laws.specs.Tests.{is_priority_broken}
 
 -- jobs
 
@@ -33,7 +37,8 @@ fit_to m sheet run k f = and_from _ _ (lt-ltb (job_at run k).task (length sheet.
 
 before_to : (run : Run) (n k : ℕ) → (job_at run n).task ≡ (job_at run k).task →
     (job_at run n).arrival < (job_at run k).arrival → is_before run n k ≡ true
-before_to run n k same earlier = and_from _ _ (eq-eqb (job_at run n).task (job_at run k).task same) (lt-ltb (job_at run n).arrival (job_at run k).arrival earlier)
+before_to run n k same earlier = and_from _ _ (eq-eqb (job_at run n).task (job_at run k).task same)
+    (lt-ltb (job_at run n).arrival (job_at run k).arrival earlier)
 
 before_from : (run : Run) (n k : ℕ) → is_before run n k ≡ true →
     ((job_at run n).task ≡ (job_at run k).task) × ((job_at run n).arrival < (job_at run k).arrival)
@@ -52,7 +57,8 @@ timely_to sheet j h = and_from _ _ (le-leb j.arrival j.release h.after) (le-leb 
 -- where no job before k passes the test, what it says holds of none
 none_before : (run : Run) (k n : ℕ) (late : Bool) → (is_before run n k && late) ≡ false →
     (job_at run n).task ≡ (job_at run k).task → (job_at run n).arrival < (job_at run k).arrival → late ≡ false
-none_before run k n late h same earlier = false_from_ne_true late (λ l. both_ways (is_before run n k && late) h (and_from (is_before run n k) late (before_to run n k same earlier) l))
+none_before run k n late h same earlier =
+    false_from_ne_true late (λ l. both_ways (is_before run n k && late) h (and_from (is_before run n k) late (before_to run n k same earlier) l))
 
 before_none : (run : Run) (k n : ℕ) (late : Bool) →
     ((job_at run n).task ≡ (job_at run k).task → (job_at run n).arrival < (job_at run k).arrival → late ≡ false) →
@@ -69,7 +75,8 @@ released_from sheet run k h =
     let parts = and_parts (is_timely sheet (job_at run k)) (all_below (λ n. not (is_overtaken run k n)) (length run.jobs)) (not-false _ h) in
     record {
       timely = timely_from sheet (job_at run k) parts.0;
-      order = λ n b same earlier. ltb-false (job_at run k).release (job_at run n).release (none_before run k n _ (not-true (is_overtaken run k n) (all_parts (λ i. not (is_overtaken run k i)) (length run.jobs) n parts.1 b)) same earlier);
+      order = λ n b same earlier. ltb-false (job_at run k).release (job_at run n).release
+          (none_before run k n _ (not-true (is_overtaken run k n) (all_parts (λ i. not (is_overtaken run k i)) (length run.jobs) n parts.1 b)) same earlier);
     }
 
 pub released_to : (sheet : SheetParts) (run : Run) (k : ℕ) → IsReleased sheet run k →
@@ -77,7 +84,9 @@ pub released_to : (sheet : SheetParts) (run : Run) (k : ℕ) → IsReleased shee
 unfolding is_release_broken
 released_to sheet run k r =
     not_from_true _ (and_from _ _ (timely_to sheet (job_at run k) r.timely)
-    (all_from (λ n. not (is_overtaken run k n)) (length run.jobs) (λ n b. not_from_false (is_overtaken run k n) (before_none run k n _ (λ same earlier. le-ltb (job_at run k).release (job_at run n).release (r.order n b same earlier))))))
+    (all_from (λ n. not (is_overtaken run k n)) (length run.jobs)
+    (λ n b. not_from_false (is_overtaken run k n)
+    (before_none run k n _ (λ same earlier. le-ltb (job_at run k).release (job_at run n).release (r.order n b same earlier))))))
 
 -- what decides whether job k is released as its task allows
 
@@ -89,12 +98,15 @@ untimely_breaks sheet run k h = not_from_false _ (and_left _ _ h)
 pub overtaken_breaks : (sheet : SheetParts) (run : Run) (k n : ℕ) → n < length run.jobs →
     is_overtaken run k n ≡ true → is_release_broken sheet run k ≡ true
 unfolding is_release_broken
-overtaken_breaks sheet run k n b h = not_from_false _ (and_right _ _ (all_broken (λ i. not (is_overtaken run k i)) (length run.jobs) n b (not_from_true (is_overtaken run k n) h)))
+overtaken_breaks sheet run k n b h =
+    not_from_false _ (and_right _ _ (all_broken (λ i. not (is_overtaken run k i)) (length run.jobs) n b (not_from_true (is_overtaken run k n) h)))
 
 pub never_overtaken : (sheet : SheetParts) (run : Run) (k : ℕ) → is_timely sheet (job_at run k) ≡ true →
     ((n : ℕ) → n < length run.jobs → is_overtaken run k n ≡ false) → is_release_broken sheet run k ≡ false
 unfolding is_release_broken
-never_overtaken sheet run k timely free = not_from_true _ (and_from _ _ timely (all_from (λ i. not (is_overtaken run k i)) (length run.jobs) (λ i b. not_from_false (is_overtaken run k i) (free i b))))
+never_overtaken sheet run k timely free =
+    not_from_true _ (and_from _ _ timely
+    (all_from (λ i. not (is_overtaken run k i)) (length run.jobs) (λ i b. not_from_false (is_overtaken run k i) (free i b))))
 
 -- what runs
 
@@ -107,14 +119,18 @@ may_run_from run k t h =
     let parts = and_parts (is_pending run k t) (all_below (λ n. not (holds_back run k t n)) (length run.jobs)) h in
     record {
       pending = pending_from run k t parts.0;
-      in_order = λ n b same earlier. done_unless run n t (none_before run k n _ (not-true (holds_back run k t n) (all_parts (λ i. not (holds_back run k t i)) (length run.jobs) n parts.1 b)) same earlier);
+      in_order = λ n b same earlier. done_unless run n t
+          (none_before run k n _ (not-true (holds_back run k t n) (all_parts (λ i. not (holds_back run k t i)) (length run.jobs) n parts.1 b)) same earlier);
     }
 
 pub may_run_to : (run : Run) (k t : ℕ) → MayRun run k t → may_run run k t ≡ true
 unfolding may_run
 may_run_to run k t r =
     and_from _ _ (pending_to run k t r.pending)
-    (all_from (λ n. not (holds_back run k t n)) (length run.jobs) (λ n b. not_from_false (holds_back run k t n) (before_none run k n _ (λ same earlier. not_from_true (is_done run n t) (le-leb (job_at run n).cost (service_of run n t) (r.in_order n b same earlier))))))
+    (all_from (λ n. not (holds_back run k t n)) (length run.jobs)
+    (λ n b. not_from_false (holds_back run k t n)
+    (before_none run k n _ (λ same earlier. not_from_true (is_done run n t)
+    (le-leb (job_at run n).cost (service_of run n t) (r.in_order n b same earlier))))))
 
 -- a test of what is pending is the definition's
 pub pending_is : (run : Run) (k t : ℕ) (b : Bool) → ((b ≡ true) ↔ IsPending run k t) → b ≡ is_pending run k t
@@ -134,7 +150,9 @@ held_back run k t n b h = and_right _ _ (all_broken (λ i. not (holds_back run k
 pub free_to_run : (run : Run) (k t : ℕ) → IsPending run k t →
     ((n : ℕ) → n < length run.jobs → holds_back run k t n ≡ false) → may_run run k t ≡ true
 unfolding may_run
-free_to_run run k t waits free = and_from _ _ (pending_to run k t waits) (all_from (λ i. not (holds_back run k t i)) (length run.jobs) (λ i b. not_from_false (holds_back run k t i) (free i b)))
+free_to_run run k t waits free =
+    and_from _ _ (pending_to run k t waits)
+    (all_from (λ i. not (holds_back run k t i)) (length run.jobs) (λ i b. not_from_false (holds_back run k t i) (free i b)))
 
 pub valid_from : (run : Run) (t k : ℕ) → is_valid_at run t ≡ true → tick_at run t ≡ Runs k → MayRun run k t
 valid_from run t k h e = may_run_from run k t (ap (may_be_at run t) (sym e) ∙ h)
@@ -164,12 +182,14 @@ valid_named run t valid k e = (valid_from run t k valid e).pending.listed
 pub record HasCrowd (sheet : SheetParts) (run : Run) (k : ℕ) : Type 0 where
   pub start : ℕ
   pub within : start ≤ (job_at run k).arrival
-  pub many : alpha_of (task_at sheet (job_at run k).task).curve ((job_at run k).arrival + 1 - start) < arrivals_of run (job_at run k).task start ((job_at run k).arrival + 1)
+  pub many : alpha_of (task_at sheet (job_at run k).task).curve ((job_at run k).arrival + 1 - start) < arrivals_of run
+      (job_at run k).task start ((job_at run k).arrival + 1)
 
 pub crowded_from : (sheet : SheetParts) (run : Run) (k : ℕ) → is_crowded sheet run k ≡ true → HasCrowd sheet run k
 unfolding is_crowded
 crowded_from sheet run k h =
-    let w = some_broken (is_within_curve sheet run k) ((job_at run k).arrival + 1) (not-true (all_below (is_within_curve sheet run k) ((job_at run k).arrival + 1)) h) in
+    let w = some_broken (is_within_curve sheet run k) ((job_at run k).arrival + 1)
+    (not-true (all_below (is_within_curve sheet run k) ((job_at run k).arrival + 1)) h) in
     record { start = w.0; within = omega (arith, w.1); many = leb-false _ _ w.2 }
 
 pub crowded_to : (sheet : SheetParts) (run : Run) (k : ℕ) → HasCrowd sheet run k → is_crowded sheet run k ≡ true
@@ -192,7 +212,8 @@ short_from sbf run u h =
 pub short_to : (sbf : ℕ → ℕ) (run : Run) (u : ℕ) → HasShortage sbf run u → is_short sbf run u ≡ true
 unfolding is_short
 short_to sbf run u s =
-    not_from_false _ (all_broken (is_supplied sbf run u) (u + 1) s.start (omega (arith, s.within)) (lt-leb (sbf (u - s.start)) (ticks_in is_on run s.start (u - s.start)) s.few))
+    not_from_false _ (all_broken (is_supplied sbf run u) (u + 1) s.start (omega (arith, s.within))
+    (lt-leb (sbf (u - s.start)) (ticks_in is_on run s.start (u - s.start)) s.few))
 
 -- one job at a tick
 
@@ -242,7 +263,8 @@ pub segment_to : (m : CutMeaning) (sheet : SheetParts) (run : Run) (t k : ℕ) �
 unfolding is_segment_broken
 segment_to m sheet run t k b =
     let not_run : runs k (tick_at run t) ≡ false = false_from_ne_true (runs k (tick_at run t)) (λ r. b.other (runs_tells k (tick_at run t) r)) in
-    and_from _ _ (on_to (tick_at run t) b.supplied) (and_from _ _ (not_from_false (runs k (tick_at run t)) not_run) (not_from_false (can_cut m sheet run k t) b.inside))
+    and_from _ _ (on_to (tick_at run t) b.supplied)
+    (and_from _ _ (not_from_false (runs k (tick_at run t)) not_run) (not_from_false (can_cut m sheet run k t) b.inside))
 
 -- job n is pending at tick t and more urgent than the job that runs there, which can be cut
 pub record IsMoreUrgent (p : PolicyMeaning) (m : CutMeaning) (sheet : SheetParts) (run : Run) (t n : ℕ) : Type 0 where
@@ -259,7 +281,14 @@ urgent_from p m sheet run t n Idle e h = absurd (cc)
 urgent_from p m sheet run t n (Runs k) e h =
     let parts = and_parts (can_cut m sheet run k t) (is_pending run n t && not (key_le (p.key sheet (job_at run k)) (p.key sheet (job_at run n)))) h in
     let more = and_parts (is_pending run n t) (not (key_le (p.key sheet (job_at run k)) (p.key sheet (job_at run n)))) parts.1 in
-    record { job = k; runs = e; cut = parts.0; waits = pending_from run n t more.0; urgent = not-true (key_le (p.key sheet (job_at run k)) (p.key sheet (job_at run n))) more.1 }
+    record {
+      job = k;
+      runs = e;
+      cut = parts.0;
+      waits = pending_from run n t more.0;
+      urgent =
+          not-true (key_le (p.key sheet (job_at run k)) (p.key sheet (job_at run n))) more.1;
+    }
 
 pub priority_from : (p : PolicyMeaning) (m : CutMeaning) (sheet : SheetParts) (run : Run) (t n : ℕ) →
     is_priority_broken p m sheet run t n ≡ true → IsMoreUrgent p m sheet run t n
@@ -270,4 +299,6 @@ pub priority_to : (p : PolicyMeaning) (m : CutMeaning) (sheet : SheetParts) (run
     IsMoreUrgent p m sheet run t n → is_priority_broken p m sheet run t n ≡ true
 unfolding is_priority_broken
 priority_to p m sheet run t n b =
-    ap (is_more_urgent p m sheet run t n) b.runs ∙ and_from _ _ b.cut (and_from _ _ (pending_to run n t b.waits) (not_from_false (key_le (p.key sheet (job_at run b.job)) (p.key sheet (job_at run n))) b.urgent))
+    ap (is_more_urgent p m sheet run t n) b.runs ∙
+    and_from _ _ b.cut (and_from _ _ (pending_to run n t b.waits)
+    (not_from_false (key_le (p.key sheet (job_at run b.job)) (p.key sheet (job_at run n))) b.urgent))

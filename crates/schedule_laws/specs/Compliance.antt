@@ -59,12 +59,14 @@ IsWorkConserving run = (t k : ℕ) → t < length run.ticks → tick_at run t �
 
 -- a job inside a segment runs at every supplied tick
 abbrev pub KeepsSegments : CutMeaning → SheetParts → Run → Type 0
-KeepsSegments m sheet run = (t k : ℕ) → t < length run.ticks → k < length run.jobs → tick_at run t ≢ Off → can_cut m sheet run k t ≡ false → tick_at run t ≡ Runs k
+KeepsSegments m sheet run = (t k : ℕ) → t < length run.ticks → k < length run.jobs → tick_at run t ≢ Off →
+    can_cut m sheet run k t ≡ false → tick_at run t ≡ Runs k
 
 -- a job that runs where it can be cut is at least as urgent as every pending job
 abbrev pub KeepsPolicy : PolicyMeaning → CutMeaning → SheetParts → Run → Type 0
 KeepsPolicy p m sheet run =
-    (t k n : ℕ) → t < length run.ticks → tick_at run t ≡ Runs k → can_cut m sheet run k t ≡ true → IsPending run n t → key_le (p.key sheet (job_at run k)) (p.key sheet (job_at run n)) ≡ true
+    (t k n : ℕ) → t < length run.ticks → tick_at run t ≡ Runs k → can_cut m sheet run k t ≡ true → IsPending run n t →
+    key_le (p.key sheet (job_at run k)) (p.key sheet (job_at run n)) ≡ true
 
 -- a run that complies with a sheet
 pub record IsCompliant (p : PolicyMeaning) (m : CutMeaning) (sbf : ℕ → ℕ) (sheet : SheetParts) (run : Run) : Type 0 where

@@ -63,7 +63,8 @@ is_valid_at run t = may_be_at run t (tick_at run t)
 -- in the window from t to the arrival of job k at most as many jobs of its task arrive as its curve says
 abbrev pub is_within_curve : SheetParts → Run → ℕ → ℕ → Bool
 is_within_curve sheet run k t =
-    nat_le (arrivals_of run (job_at run k).task t ((job_at run k).arrival + 1)) (alpha_of (task_at sheet (job_at run k).task).curve ((job_at run k).arrival + 1 - t))
+    nat_le (arrivals_of run (job_at run k).task t ((job_at run k).arrival + 1))
+    (alpha_of (task_at sheet (job_at run k).task).curve ((job_at run k).arrival + 1 - t))
 
 -- some window that ends with the arrival of job k has more
 unfoldable pub is_crowded : SheetParts → Run → ℕ → Bool
@@ -72,7 +73,8 @@ is_crowded sheet run k = not (all_below (is_within_curve sheet run k) ((job_at r
 -- the window that begins with the arrival of job n, of the same task and no later, has more
 abbrev pub is_crowded_since : SheetParts → Run → ℕ → ℕ → Bool
 is_crowded_since sheet run k n =
-    ((job_at run n).task == (job_at run k).task) && (nat_le (job_at run n).arrival (job_at run k).arrival && not (is_within_curve sheet run k (job_at run n).arrival))
+    ((job_at run n).task == (job_at run k).task) &&
+    (nat_le (job_at run n).arrival (job_at run k).arrival && not (is_within_curve sheet run k (job_at run n).arrival))
 
 -- the window [t, u) has as many supplied ticks as promised
 abbrev pub is_supplied : (ℕ → ℕ) → Run → ℕ → ℕ → Bool
@@ -99,7 +101,8 @@ is_segment_broken m sheet run t k = is_on (tick_at run t) && (not (runs k (tick_
 abbrev pub is_more_urgent : PolicyMeaning → CutMeaning → SheetParts → Run → ℕ → ℕ → Tick → Bool
 is_more_urgent p m sheet run t n Off = false
 is_more_urgent p m sheet run t n Idle = false
-is_more_urgent p m sheet run t n (Runs k) = can_cut m sheet run k t && (is_pending run n t && not (key_le (p.key sheet (job_at run k)) (p.key sheet (job_at run n))))
+is_more_urgent p m sheet run t n (Runs k) =
+    can_cut m sheet run k t && (is_pending run n t && not (key_le (p.key sheet (job_at run k)) (p.key sheet (job_at run n))))
 
 unfoldable pub is_priority_broken : PolicyMeaning → CutMeaning → SheetParts → Run → ℕ → ℕ → Bool
 is_priority_broken p m sheet run t n = is_more_urgent p m sheet run t n (tick_at run t)

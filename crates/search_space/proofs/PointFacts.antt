@@ -1,4 +1,5 @@
-use Rattle.std.proofs.Common.{◌≡◌, ℕ, zero, suc, ◌+◌, ◌-◌, ◌<◌, ◌≤◌, ◌≢◌, ◌==◌, Bool, true, false, cond, length, Some, None, refl, sym, ◌∙◌, ap, subst, inl, inr, arith, eq-eqb, not, ◌||◌}
+use Rattle.std.proofs.Common.{◌≡◌, ℕ, zero, suc, ◌+◌, ◌-◌, ◌<◌, ◌≤◌, ◌≢◌, ◌==◌, Bool, true, false, cond, length, Some, None, refl, sym, ◌∙◌, ap}
+use Rattle.std.proofs.Common.{subst, inl, inr, arith, eq-eqb, not, ◌||◌}
 use Rattle.std.proofs.lemmas.Bool.{cases_Bool, cases_eq, both_ways, ne_eqb, eqb-true}
 use Rattle.lists.proofs.FirstFacts.{all_parts, all_from}
 use Rattle.curve.specs.CurveValue.{Curve}
@@ -47,7 +48,8 @@ pub same_before : (p : PolicyMeaning) (sheet : SheetParts) (i a : ℕ) → is_po
 unfolding is_point
 same_before p sheet i a h = same_means p sheet i (a - 1) a (not_point _ (or_parts _ _ h).1)
 
-pub same_along : (p : PolicyMeaning) (sheet : SheetParts) (i a n : ℕ) → ((k : ℕ) → a < k → k ≤ a + n → is_point p sheet i k ≡ false) → IsSame p sheet i a (a + n)
+pub same_along : (p : PolicyMeaning) (sheet : SheetParts) (i a n : ℕ) →
+    ((k : ℕ) → a < k → k ≤ a + n → is_point p sheet i k ≡ false) → IsSame p sheet i a (a + n)
 same_along p sheet i a zero h =
     let e : a ≡ a + 0 = omega arith in
     subst (IsSame p sheet i a) e (λ o l. refl)
@@ -65,16 +67,31 @@ between p sheet i a b h none =
 
 module _ (p : PolicyMeaning) (sheet : SheetParts) (ok : IsValidSheet sheet) (lawful : IsLawfulPolicy p sheet) (i : ℕ) (in_range : i < length sheet.tasks) where
   own_number : (a : ℕ) → compared_of p sheet i a i ≡ alpha_of (task_at sheet i).curve (a + 1 + (task_at sheet i).jitter)
-  own_number a = ap (λ (b : Bool). cond b (alpha_of (task_at sheet i).curve (a + 1 + (task_at sheet i).jitter)) (cap_count (task_at sheet i).curve (p.cap sheet i i a))) (eq-eqb i i refl)
+  own_number a = ap (λ (b : Bool). cond b (alpha_of (task_at sheet i).curve (a + 1 + (task_at sheet i).jitter))
+      (cap_count (task_at sheet i).curve (p.cap sheet i i a))) (eq-eqb i i refl)
 
   other_number : (a o : ℕ) → o ≢ i → compared_of p sheet i a o ≡ cap_count (task_at sheet o).curve (p.cap sheet i o a)
-  other_number a o ne = ap (λ (b : Bool). cond b (alpha_of (task_at sheet i).curve (a + 1 + (task_at sheet i).jitter)) (cap_count (task_at sheet o).curve (p.cap sheet i o a))) (ne_eqb o i ne)
+  other_number a o ne = ap (λ (b : Bool). cond b (alpha_of (task_at sheet i).curve (a + 1 + (task_at sheet i).jitter))
+      (cap_count (task_at sheet o).curve (p.cap sheet i o a))) (ne_eqb o i ne)
 
   -- the numbers never fall
   pub compared_grows : (a b o : ℕ) → o < length sheet.tasks → a ≤ b → compared_of p sheet i a o ≤ compared_of p sheet i b o
   compared_grows a b o l h = elim (cases_eq o i) [
-    | inl e ↦ subst (λ w. compared_of p sheet i a w ≤ compared_of p sheet i b w) (sym e) (omega (arith, own_number a, own_number b, alpha_mono (task_at sheet i).curve (ok.each i in_range).curve (a + 1 + (task_at sheet i).jitter) (b + 1 + (task_at sheet i).jitter) (omega arith)))
-    | inr ne ↦ omega (arith, other_number a o ne, other_number b o ne, count_grows (task_at sheet o).curve (ok.each o l).curve (p.cap sheet i o a) (p.cap sheet i o b) (lawful.cap_grows i o a b in_range l (λ e. ne (sym e)) h))
+    | inl e ↦ subst (λ w. compared_of p sheet i a w ≤ compared_of p sheet i b w) (sym e)
+        (omega (
+          arith,
+          own_number a,
+          own_number b,
+          alpha_mono (task_at sheet i).curve (ok.each i in_range).curve
+              (a + 1 + (task_at sheet i).jitter) (b + 1 + (task_at sheet i).jitter) (omega arith),
+        ))
+    | inr ne ↦ omega (
+      arith,
+      other_number a o ne,
+      other_number b o ne,
+      count_grows (task_at sheet o).curve (ok.each o l).curve
+          (p.cap sheet i o a) (p.cap sheet i o b) (lawful.cap_grows i o a b in_range l (λ e. ne (sym e)) h),
+    )
   ]
 
   pub across : (from at to : ℕ) → from ≤ at → at < to → IsSame p sheet i from (to - 1) → IsSame p sheet i from at
@@ -108,8 +125,15 @@ module _ (p : PolicyMeaning) (sheet : SheetParts) (gap : AcrossGap p) (ok : IsVa
 
   pub first_after : (below n : ℕ) → IsAround p sheet i a below (n - 1) n → n < below → IsFirstBelow (IsPointAfter p sheet i a) below (Some n)
   first_after below n around lt =
-      let same = same_means p sheet i a (n - 1) around.same in
-      (lt, record { later = omega (arith, around.after, around.order); point = elim around.other [ inl e ↦ absurd (omega (arith, e)) | inr e ↦ point_here p sheet i a n same e ] }, λ k l. no_point_to (n - 1) k same (omega arith))
+      let same = same_means p sheet i a (n - 1) around.same in (
+        lt,
+        record {
+          later = omega (arith, around.after, around.order);
+          point =
+              elim around.other [ inl e ↦ absurd (omega (arith, e)) | inr e ↦ point_here p sheet i a n same e ];
+        },
+        λ k l. no_point_to (n - 1) k same (omega arith),
+      )
 
   pub none_after : (below n : ℕ) → IsAround p sheet i a below (n - 1) n → below ≤ n → IsFirstBelow (IsPointAfter p sheet i a) below None
   none_after below n around le k l = no_point_to (n - 1) k (same_means p sheet i a (n - 1) around.same) (omega arith)

@@ -17,5 +17,6 @@ list_any-map p h [] = refl
 list_any-map p h (x ∷ xs) = ap (λ b. p (h x) || b) (list_any-map p h xs)
 
 -- a name among the keys of a set
-pub name_among : (q : List ℕ) (k : String Global) (ks : List (String Global)) → string_bytes k ≡ q → list_any (bytes_eq q) (map string_bytes ks) ≡ list_any (string_eq k) ks
+pub name_among : (q : List ℕ) (k : String Global) (ks : List (String Global)) → string_bytes k ≡ q →
+    list_any (bytes_eq q) (map string_bytes ks) ≡ list_any (string_eq k) ks
 name_among q k ks same = rw (← same) (list_any-map (bytes_eq (string_bytes k)) string_bytes ks)

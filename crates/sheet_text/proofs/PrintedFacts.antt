@@ -1,4 +1,5 @@
-use Rattle.std.proofs.Common.{◌≡◌, ℕ, ℤ, pos, negsuc, ◌<◌, ◌≤◌, ◌^◌, true, zero, suc, List, [], ◌∷◌, length, get_or, map, String, Global, string_bytes, nat_cmp, Ordering, Less, Equal, Greater, refl, arith}
+use Rattle.std.proofs.Common.{◌≡◌, ℕ, ℤ, pos, negsuc, ◌<◌, ◌≤◌, ◌^◌, true, zero, suc, List, [], ◌∷◌, length, get_or, map, String, Global}
+use Rattle.std.proofs.Common.{string_bytes, nat_cmp, Ordering, Less, Equal, Greater, refl, arith}
 use Rattle.std.specs.Ordering.{match_ordering}
 use Rattle.std.specs.Cmp.Lexicographic.{slice_cmp}
 use Rattle.std.specs.String.{string_cmp}
@@ -23,14 +24,16 @@ use Rattle.sheet_text.specs.Printed.{put, number_data, step_data, cut_data, task
 abbrev pub MapEntry : Type 0
 MapEntry = String Global × Value
 
-put_in : (o : Ordering) (k : List ℕ) (key : String Global) (v : Value) (e : MapEntry) (es : List MapEntry) → o ≡ slice_cmp nat_cmp k (string_bytes e.0) → string_bytes key ≡ k → members_view (insert_entry string_cmp es key v) ≡ put k (view v) (members_view es) →
+put_in : (o : Ordering) (k : List ℕ) (key : String Global) (v : Value) (e : MapEntry) (es : List MapEntry) →
+    o ≡ slice_cmp nat_cmp k (string_bytes e.0) → string_bytes key ≡ k → members_view (insert_entry string_cmp es key v) ≡ put k (view v) (members_view es) →
     members_view (match_ordering o ((key, v) ∷ e ∷ es) ((e.0, v) ∷ es) (e ∷ insert_entry string_cmp es key v)) ≡ put k (view v) (members_view (e ∷ es))
 put_in Less k key v e es at same more = rw (← at, same) refl
 put_in Equal k key v e es at same more = rw (← at) refl
 put_in Greater k key v e es at same more = rw (← at, more) refl
 
 -- an entry put into a map is a member put among the members
-pub put_entry : (k : List ℕ) (key : String Global) (v : Value) (es : List MapEntry) → string_bytes key ≡ k → members_view (insert_entry string_cmp es key v) ≡ put k (view v) (members_view es)
+pub put_entry : (k : List ℕ) (key : String Global) (v : Value) (es : List MapEntry) → string_bytes key ≡ k →
+    members_view (insert_entry string_cmp es key v) ≡ put k (view v) (members_view es)
 put_entry k key v [] same = rw same refl
 put_entry k key v (e ∷ es) same = put_in (string_cmp key e.0) k key v e es (rw same refl) same (put_entry k key v es same)
 

@@ -1,5 +1,6 @@
 -- What is printed reads again.
-use Rattle.std.proofs.Common.{◌≡◌, ℕ, ℤ, pos, negsuc, ◌+◌, ◌<◌, ◌≤◌, true, zero, suc, List, [], ◌∷◌, ◌++◌, length, length-append, get_or, map, codes, refl, ◌∙◌, arith, append_assoc, Some, None, Ok}
+use Rattle.std.proofs.Common.{◌≡◌, ℕ, ℤ, pos, negsuc, ◌+◌, ◌<◌, ◌≤◌, true, zero, suc, List, [], ◌∷◌, ◌++◌, length, length-append, get_or, map, codes}
+use Rattle.std.proofs.Common.{refl, ◌∙◌, arith, append_assoc, Some, None, Ok}
 use Rattle.std.proofs.lemmas.Bool.{and_from, le-leb}
 use Rattle.std.proofs.lemmas.List.{append-nil, map_push}
 use Rattle.toml.specs.Text.{are_tables}
@@ -57,8 +58,10 @@ up_to : (most n : ℕ) → n ≤ most → is_between 0 most n ≡ true
 up_to most n h = and_from _ _ (le-leb 0 n (omega arith)) (le-leb n most h)
 
 -- a value that has these members is read as the task
-task_shown : (policy : PolicyKind) (n : ℕ) (names : List (List ℕ)) (t : Task) (d : Data) → task_rule n names t ≡ Ok tt → IsCurve t.curve → knows_only task_keys d ≡ true →
-    get (codes "name") d ≡ Some (string t.name) → get (codes "cost") d ≡ Some (number_data t.cost) → get (codes "deadline") d ≡ Some (number_data t.deadline) → get (codes "priority") d ≡ Some (number_data t.priority) →
+task_shown : (policy : PolicyKind) (n : ℕ) (names : List (List ℕ)) (t : Task) (d : Data) → task_rule n names t ≡ Ok tt →
+    IsCurve t.curve → knows_only task_keys d ≡ true →
+    get (codes "name") d ≡ Some (string t.name) → get (codes "cost") d ≡ Some (number_data t.cost) →
+    get (codes "deadline") d ≡ Some (number_data t.deadline) → get (codes "priority") d ≡ Some (number_data t.priority) →
     jitter_rule (places.Task n) (get (codes "jitter") d) ≡ Ok t.jitter → point_rule (places.Task n) (get (codes "point") d) ≡ Ok t.point →
     get (codes "period") d ≡ None → get (codes "curve") d ≡ Some (curve_data t.curve) → get (codes "preemption") d ≡ Some (cut_data t.cut) →
     task_of policy n names d ≡ Ok t
@@ -67,36 +70,65 @@ task_shown policy n names t d rule valid known name cost deadline priority jitte
     let means = task_means n names t rule in
     let high = up_to 1000000000 t.priority means.priority in
     let fits = cut_again n t.cost t.cut (cut_passes n t.cost t.cut (positive_high t.cost means.cost) means.cut) in
-    rw (known, name, means.name, means.fresh, cost, means.cost, deadline, means.deadline, priority, high, jitter, point, period, curve, curve_again _ t.curve valid, cut, fits) refl
+    rw (
+      known,
+      name,
+      means.name,
+      means.fresh,
+      cost,
+      means.cost,
+      deadline,
+      means.deadline,
+      priority,
+      high,
+      jitter,
+      point,
+      period,
+      curve,
+      curve_again _ t.curve valid,
+      cut,
+      fits,
+    ) refl
 
 -- the task with this jitter and this priority point
 abbrev with_both : Task → ℕ → ℤ → Task
 with_both t j q = record t { jitter = j; point = q }
 
 -- with any jitter and any priority point, which are printed where they are not 0
-both_again : (policy : PolicyKind) (n : ℕ) (names : List (List ℕ)) (t : Task) (j : ℕ) (q : ℤ) → is_between 0 most_jitter j ≡ true → is_priority_point q ≡ true → task_rule n names (with_both t j q) ≡ Ok tt → IsCurve t.curve →
+both_again : (policy : PolicyKind) (n : ℕ) (names : List (List ℕ)) (t : Task) (j : ℕ) (q : ℤ) →
+    is_between 0 most_jitter j ≡ true → is_priority_point q ≡ true → task_rule n names (with_both t j q) ≡ Ok tt → IsCurve t.curve →
     task_of policy n names (task_data (with_both t j q)) ≡ Ok (with_both t j q)
 both_again policy n names t zero (pos zero) late near rule curve = task_shown policy n names _ _ rule curve refl refl refl refl refl refl refl refl refl refl
-both_again policy n names t zero (pos (suc q)) late near rule curve = task_shown policy n names _ _ rule curve refl refl refl refl refl refl (rw near refl) refl refl refl
-both_again policy n names t zero (negsuc q) late near rule curve = task_shown policy n names _ _ rule curve refl refl refl refl refl refl (rw near refl) refl refl refl
-both_again policy n names t (suc j) (pos zero) late near rule curve = task_shown policy n names _ _ rule curve refl refl refl refl refl (rw late refl) refl refl refl refl
-both_again policy n names t (suc j) (pos (suc q)) late near rule curve = task_shown policy n names _ _ rule curve refl refl refl refl refl (rw late refl) (rw near refl) refl refl refl
-both_again policy n names t (suc j) (negsuc q) late near rule curve = task_shown policy n names _ _ rule curve refl refl refl refl refl (rw late refl) (rw near refl) refl refl refl
+both_again policy n names t zero (pos (suc q)) late near rule curve =
+    task_shown policy n names _ _ rule curve refl refl refl refl refl refl (rw near refl) refl refl refl
+both_again policy n names t zero (negsuc q) late near rule curve =
+    task_shown policy n names _ _ rule curve refl refl refl refl refl refl (rw near refl) refl refl refl
+both_again policy n names t (suc j) (pos zero) late near rule curve =
+    task_shown policy n names _ _ rule curve refl refl refl refl refl (rw late refl) refl refl refl refl
+both_again policy n names t (suc j) (pos (suc q)) late near rule curve =
+    task_shown policy n names _ _ rule curve refl refl refl refl refl (rw late refl) (rw near refl) refl refl refl
+both_again policy n names t (suc j) (negsuc q) late near rule curve =
+    task_shown policy n names _ _ rule curve refl refl refl refl refl (rw late refl) (rw near refl) refl refl refl
 
-task_again : (policy : PolicyKind) (n : ℕ) (names : List (List ℕ)) (t : Task) → task_rule n names t ≡ Ok tt → IsCurve t.curve → task_of policy n names (task_data t) ≡ Ok t
+task_again : (policy : PolicyKind) (n : ℕ) (names : List (List ℕ)) (t : Task) → task_rule n names t ≡ Ok tt → IsCurve t.curve →
+    task_of policy n names (task_data t) ≡ Ok t
 task_again policy n names t rule curve =
     let means = task_means n names t rule in
     both_again policy n names t t.jitter t.point (up_to most_jitter t.jitter means.jitter) means.point rule curve
 
-tasks_again : (policy : PolicyKind) (done ts : List Task) → tasks_rule (length done) (names_of done) ts ≡ Ok tt → ((i : ℕ) → i < length ts → IsCurve (get_or ts i no_task).curve) → tasks_after policy done (items_of (map task_data ts)) ≡ Ok (done ++ ts)
+tasks_again : (policy : PolicyKind) (done ts : List Task) → tasks_rule (length done) (names_of done) ts ≡ Ok tt →
+    ((i : ℕ) → i < length ts → IsCurve (get_or ts i no_task).curve) → tasks_after policy done (items_of (map task_data ts)) ≡ Ok (done ++ ts)
 unfolding tasks_after
 tasks_again policy done [] rules curves = rw append-nil refl
 tasks_again policy done (t ∷ ts) rules curves =
-    let parts : (task_rule (length done) (names_of done) t ≡ Ok tt) × (tasks_rule (length done + 1) (names_of done ++ t.name ∷ []) ts ≡ Ok tt) = both_hold _ _ _ rules in
-    let again : task_of policy (length done) (names_of done) (task_data t) ≡ Ok t = task_again policy (length done) (names_of done) t parts.0 (curves 0 (omega arith)) in
+    let parts : (task_rule (length done) (names_of done) t ≡ Ok tt) ×
+    (tasks_rule (length done + 1) (names_of done ++ t.name ∷ []) ts ≡ Ok tt) = both_hold _ _ _ rules in
+    let again : task_of policy (length done) (names_of done) (task_data t) ≡ Ok t =
+    task_again policy (length done) (names_of done) t parts.0 (curves 0 (omega arith)) in
     let names : names_of (done ++ t ∷ []) ≡ names_of done ++ t.name ∷ [] = map_push (λ (x : Task). x.name) done t in
     let count : length (done ++ t ∷ []) ≡ length done + 1 = length-append done (t ∷ []) in
-    let rest : tasks_after policy (done ++ t ∷ []) (items_of (map task_data ts)) ≡ Ok ((done ++ t ∷ []) ++ ts) = tasks_again policy (done ++ t ∷ []) ts (rw (names, count) parts.1) (λ i l. curves (suc i) (omega arith)) in
+    let rest : tasks_after policy (done ++ t ∷ []) (items_of (map task_data ts)) ≡ Ok ((done ++ t ∷ []) ++ ts) =
+    tasks_again policy (done ++ t ∷ []) ts (rw (names, count) parts.1) (λ i l. curves (suc i) (omega arith)) in
     rw again (rest ∙ rw append_assoc refl)
 
 policy_again : (p : PolicyKind) → policy_rule (string (policy_word p)) ≡ Ok p
@@ -106,7 +138,8 @@ policy_again Fifo = refl
 policy_again Gel = refl
 policy_again Elf = refl
 
-promise_again : (horizon : ℕ) (times : List ℕ) → supply_rule (Promised horizon times) ≡ Ok tt → promised_rule (promise_data horizon times) ≡ Ok (Promised horizon times)
+promise_again : (horizon : ℕ) (times : List ℕ) → supply_rule (Promised horizon times) ≡ Ok tt →
+    promised_rule (promise_data horizon times) ≡ Ok (Promised horizon times)
 unfolding promised_rule
 promise_again horizon times h =
     let first = both_hold _ _ _ (both_hold _ _ _ h).0 in
@@ -122,11 +155,13 @@ many [] = refl
 many (t ∷ ts) = omega (arith, many ts)
 
 -- a sheet's document says that sheet
-pub document_again : (p : PolicyKind) (s : SupplySpec) (ts : List Task) → supply_rule s ≡ Ok tt → is_between 1 256 (length ts) ≡ true → tasks_rule 0 [] ts ≡ Ok tt → ((i : ℕ) → i < length ts → IsCurve (get_or ts i no_task).curve) →
+pub document_again : (p : PolicyKind) (s : SupplySpec) (ts : List Task) → supply_rule s ≡ Ok tt →
+    is_between 1 256 (length ts) ≡ true → tasks_rule 0 [] ts ≡ Ok tt → ((i : ℕ) → i < length ts → IsCurve (get_or ts i no_task).curve) →
     sheet_of (table (sheet_data (parts_of p s ts))) ≡ Ok (parts_of p s ts)
 unfolding sheet_of
 document_again p Whole ts supply count rules curves = rw (policy_again p, tables ts, many ts, count, tasks_again p [] ts rules curves) refl
-document_again p (Promised horizon times) ts supply count rules curves = rw (policy_again p, promise_again horizon times supply, tables ts, many ts, count, tasks_again p [] ts rules curves) refl
+document_again p (Promised horizon times) ts supply count rules curves =
+    rw (policy_again p, promise_again horizon times supply, tables ts, many ts, count, tasks_again p [] ts rules curves) refl
 
 pub sheet_again : (s : SheetParts) → IsValidSheet s → sheet_of (table (sheet_data s)) ≡ Ok s
 sheet_again s valid =

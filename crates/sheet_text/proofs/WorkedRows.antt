@@ -41,7 +41,8 @@ pub cost_first : sheet_of_text (codes "policy = \"fp\"\n" ++ task_text (codes "d
 unfolding sheet_of_text is_utf8 chars sheet_of tasks_after task_of name_rule numbers_rule toml_on_literals
 cost_first = refl
 
-pub negative_priority : sheet_of_text (codes "policy = \"edf\"\n" ++ task_text (codes "cost = 4\ndeadline = 9\npriority = -1\n")) ≡ Err (Range (places.Task 0) fields.Priority)
+pub negative_priority : sheet_of_text (codes "policy = \"edf\"\n" ++ task_text (codes "cost = 4\ndeadline = 9\npriority = -1\n"))
+    ≡ Err (Range (places.Task 0) fields.Priority)
 unfolding sheet_of_text is_utf8 chars sheet_of tasks_after task_of name_rule numbers_rule toml_on_literals
 negative_priority = refl
 
@@ -49,11 +50,14 @@ pub period_and_curve : sheet_of_text (codes "policy = \"edf\"\n" ++ task_text (c
 unfolding sheet_of_text is_utf8 chars sheet_of tasks_after task_of name_rule numbers_rule toml_on_literals
 period_and_curve = refl
 
-pub step_at_zero : sheet_of_text (codes "policy = \"edf\"\n" ++ task_text (codes "cost = 4\ndeadline = 9\ncurve = { horizon = 5, steps = [[0, 1]] }\n")) ≡ Err (Range (places.Task 0) fields.CurveSteps)
+pub step_at_zero : sheet_of_text
+    (codes "policy = \"edf\"\n" ++ task_text (codes "cost = 4\ndeadline = 9\ncurve = { horizon = 5, steps = [[0, 1]] }\n")) ≡ Err
+    (Range (places.Task 0) fields.CurveSteps)
 unfolding sheet_of_text is_utf8 chars sheet_of tasks_after task_of name_rule numbers_rule curve_rule toml_on_literals
 step_at_zero = refl
 
-pub segments_of_less : sheet_of_text (codes "policy = \"edf\"\n" ++ task_text (codes "cost = 4\ndeadline = 9\nperiod = 9\npreemption = { fixed = [1, 2] }\n")) ≡ Err (Sum 0)
+pub segments_of_less : sheet_of_text
+    (codes "policy = \"edf\"\n" ++ task_text (codes "cost = 4\ndeadline = 9\nperiod = 9\npreemption = { fixed = [1, 2] }\n")) ≡ Err (Sum 0)
 unfolding sheet_of_text is_utf8 chars sheet_of tasks_after task_of name_rule numbers_rule segmented_rule toml_on_literals
 segments_of_less = refl
 
@@ -61,29 +65,48 @@ pub second_of_a_name : sheet_of_text (codes "policy = \"edf\"\n" ++ task_text (c
 unfolding sheet_of_text is_utf8 chars sheet_of tasks_after task_of name_rule numbers_rule toml_on_literals
 second_of_a_name = refl
 
-pub jitter_too_great : sheet_of_text (codes "policy = \"edf\"\n" ++ task_text (codes "cost = 4\ndeadline = 9\njitter = 1000000001\n")) ≡ Err (Range (places.Task 0) fields.Jitter)
+pub jitter_too_great : sheet_of_text
+    (codes "policy = \"edf\"\n" ++ task_text (codes "cost = 4\ndeadline = 9\njitter = 1000000001\n")) ≡ Err (Range (places.Task 0) fields.Jitter)
 unfolding sheet_of_text is_utf8 chars sheet_of tasks_after task_of name_rule numbers_rule most_jitter toml_on_literals
 jitter_too_great = refl
 
 pub one_late_task : sheet_of_text (codes "policy = \"edf\"\n" ++ task_text (codes "cost = 4\ndeadline = 9\njitter = 3\nperiod = 8\n"))
-    ≡ Ok (record { policy = Edf; supply = Whole; tasks = record { name = codes "a"; cost = 4; deadline = 9; priority = 0; jitter = 3; point = pos 0; curve = periodic 8; cut = Full } ∷ [] })
+    ≡ Ok (record {
+      policy = Edf;
+      supply = Whole;
+      tasks =
+          record { name = codes "a"; cost = 4; deadline = 9; priority = 0; jitter = 3; point = pos 0; curve = periodic 8; cut = Full } ∷ [];
+    })
 unfolding sheet_of_text is_utf8 chars sheet_of tasks_after task_of name_rule numbers_rule most_jitter toml_on_literals
 one_late_task = refl
 
-pub point_too_great : sheet_of_text (codes "policy = \"gel\"\n" ++ task_text (codes "cost = 4\ndeadline = 9\npoint = 1000000001\n")) ≡ Err (Range (places.Task 0) fields.Point)
+pub point_too_great : sheet_of_text
+    (codes "policy = \"gel\"\n" ++ task_text (codes "cost = 4\ndeadline = 9\npoint = 1000000001\n")) ≡ Err (Range (places.Task 0) fields.Point)
 unfolding sheet_of_text is_utf8 chars sheet_of tasks_after task_of name_rule numbers_rule most_point toml_on_literals
 point_too_great = refl
 
-pub no_priority : sheet_of_text (codes "policy = \"elf\"\n" ++ task_text (codes "cost = 4\ndeadline = 9\npoint = 1.0\n")) ≡ Err (Missing (places.Task 0) fields.Priority)
+pub no_priority : sheet_of_text (codes "policy = \"elf\"\n" ++ task_text (codes "cost = 4\ndeadline = 9\npoint = 1.0\n")) ≡ Err
+    (Missing (places.Task 0) fields.Priority)
 unfolding sheet_of_text is_utf8 chars sheet_of tasks_after task_of name_rule numbers_rule toml_on_literals
 no_priority = refl
 
 pub one_early_point : sheet_of_text (codes "policy = \"gel\"\n" ++ task_text (codes "cost = 4\ndeadline = 9\npoint = -3\nperiod = 8\n"))
-    ≡ Ok (record { policy = Gel; supply = Whole; tasks = record { name = codes "a"; cost = 4; deadline = 9; priority = 0; jitter = 0; point = negsuc 2; curve = periodic 8; cut = Full } ∷ [] })
+    ≡ Ok (record {
+      policy = Gel;
+      supply = Whole;
+      tasks =
+          record { name = codes "a"; cost = 4; deadline = 9; priority = 0; jitter = 0; point = negsuc 2; curve = periodic 8; cut = Full } ∷ [];
+    })
 unfolding sheet_of_text is_utf8 chars sheet_of tasks_after task_of name_rule numbers_rule most_point toml_on_literals
 one_early_point = refl
 
-pub one_task : sheet_of_text (codes "policy = \"fp\"\n" ++ task_text (codes "cost = 4\ndeadline = 9\npriority = 2\nperiod = 8\npreemption = { floating = 4 }\n"))
-    ≡ Ok (record { policy = Fp; supply = Whole; tasks = record { name = codes "a"; cost = 4; deadline = 9; priority = 2; jitter = 0; point = pos 0; curve = periodic 8; cut = Floating 4 } ∷ [] })
+pub one_task : sheet_of_text (codes "policy = \"fp\"\n" ++ task_text
+    (codes "cost = 4\ndeadline = 9\npriority = 2\nperiod = 8\npreemption = { floating = 4 }\n"))
+    ≡ Ok (record {
+      policy = Fp;
+      supply = Whole;
+      tasks =
+          record { name = codes "a"; cost = 4; deadline = 9; priority = 2; jitter = 0; point = pos 0; curve = periodic 8; cut = Floating 4 } ∷ [];
+    })
 unfolding sheet_of_text is_utf8 chars sheet_of tasks_after task_of name_rule numbers_rule segmented_rule toml_on_literals
 one_task = refl

@@ -19,7 +19,8 @@ use Rattle.sheet_text.specs.CutRows.{preemption_rule}
 
 -- the keys of a task
 abbrev pub task_keys : List (List ℕ)
-task_keys = codes "name" ∷ codes "cost" ∷ codes "deadline" ∷ codes "priority" ∷ codes "jitter" ∷ codes "point" ∷ codes "period" ∷ codes "curve" ∷ codes "preemption" ∷ []
+task_keys = codes "name" ∷ codes "cost" ∷ codes "deadline" ∷ codes "priority" ∷ codes "jitter" ∷ codes "point" ∷ codes "period" ∷
+    codes "curve" ∷ codes "preemption" ∷ []
 
 -- a name that no task before has
 unfoldable pub name_rule : ℕ → List (List ℕ) → Data → Result (List ℕ) SheetRefusal
@@ -76,7 +77,17 @@ task_of policy n names d = do
   numbers ← numbers_rule policy (places.Task n) d
   its_curve ← arrivals_rule n (get (codes "period") d) (get (codes "curve") d)
   its_cut ← preemption_rule n numbers.cost (get (codes "preemption") d)
-  Ok (record { name = its_name; cost = numbers.cost; deadline = numbers.deadline; priority = numbers.priority; jitter = numbers.jitter; point = numbers.point; curve = its_curve; cut = its_cut })
+  Ok (record {
+    name = its_name;
+    cost = numbers.cost;
+    deadline = numbers.deadline;
+    priority = numbers.priority;
+    jitter =
+        numbers.jitter;
+    point = numbers.point;
+    curve = its_curve;
+    cut = its_cut;
+  })
 
 -- the names of some tasks
 abbrev pub names_of : List Task → List (List ℕ)

@@ -1,5 +1,6 @@
 -- One more job.
-use Rattle.std.proofs.Common.{◌≡◌, ◌≢◌, ℕ, suc, ◌+◌, ◌-◌, ◌<◌, ◌≤◌, ◌==◌, Bool, true, false, cond, [], ◌∷◌, ◌++◌, length, refl, sym, ◌∙◌, ap, subst, inl, inr, arith}
+use Rattle.std.proofs.Common.{◌≡◌, ◌≢◌, ℕ, suc, ◌+◌, ◌-◌, ◌<◌, ◌≤◌, ◌==◌, Bool, true, false, cond, [], ◌∷◌, ◌++◌, length, refl, sym, ◌∙◌, ap, subst}
+use Rattle.std.proofs.Common.{inl, inr, arith}
 use Rattle.std.proofs.lemmas.Bool.{cases_Bool, cases_lt, cases_eq, and_parts, eqb-true, eq-eqb, ne_eqb}
 use Rattle.std.proofs.lemmas.Bool.Decides.{nat_tests}
 use Rattle.curve.specs.Curves.{alpha_of}
@@ -25,7 +26,8 @@ module _ (w : World) (laws : IsLawful w) (t : ℕ) (run : Run) (sound : IsSound 
 
   -- the jobs of the task so far are released by t and its jitter
   soon_before : last_release j.task run.jobs ≤ t + jitter j.task
-  soon_before = last_within j.task (t + jitter j.task) run (λ k b same. omega (arith, (sound.complies.valid.releases k b).timely.soon, sound.early k b, ap jitter same))
+  soon_before = last_within j.task (t + jitter j.task) run
+      (λ k b same. omega (arith, (sound.complies.valid.releases k b).timely.soon, sound.early k b, ap jitter same))
 
   timely : IsTimely w.sheet j
   timely = record {
@@ -95,7 +97,12 @@ module _ (w : World) (laws : IsLawful w) (t : ℕ) (run : Run) (sound : IsSound 
         let l = p.listed in
         let a = p.released in
         let at : k ≡ length run.jobs = omega (arith, jobs_more run j) in
-        absurd (omega (arith, timely.after, ap (λ i. (job_at (with_job run j) i).release) at, ap (λ (v : Job). v.release) (job_new run j (length run.jobs) refl)))
+        absurd (omega (
+          arith,
+          timely.after,
+          ap (λ i. (job_at (with_job run j) i).release) at,
+          ap (λ (v : Job). v.release) (job_new run j (length run.jobs) refl),
+        ))
   ]
 
   still_pending : (k u : ℕ) → IsPending run k u → IsPending (with_job run j) k u
@@ -152,20 +159,28 @@ module _ (w : World) (laws : IsLawful w) (t : ℕ) (run : Run) (sound : IsSound 
         };
         releases = λ k b. record {
           timely = each (λ i v. IsTimely w.sheet v) (λ i c. (sound.complies.valid.releases i c).timely) timely k b;
-          order = λ n c. each (λ i v. (job_at (with_job run j) n).task ≡ v.task → (job_at (with_job run j) n).arrival < v.arrival → (job_at (with_job run j) n).release ≤ v.release)
+          order = λ n c. each (λ i v. (job_at (with_job run j) n).task ≡ v.task →
+              (job_at (with_job run j) n).arrival < v.arrival → (job_at (with_job run j) n).release ≤ v.release)
               (λ i b. each (λ m v. v.task ≡ (job_at run i).task → v.arrival < (job_at run i).arrival → v.release ≤ (job_at run i).release)
               (λ m c same less. (sound.complies.valid.releases i b).order m c same less)
               (λ same less. absurd (omega (arith, sound.early i b))) n c)
-              (each (λ m v. v.task ≡ j.task → v.arrival < j.arrival → v.release ≤ j.release) (λ m c same less. released_last m c same) (λ same less. absurd (omega arith)) n c) k b;
+              (each (λ m v. v.task ≡ j.task → v.arrival < j.arrival →
+              v.release ≤ j.release) (λ m c same less. released_last m c same) (λ same less. absurd (omega arith)) n c) k b;
         };
         ticks = λ u k h e. record {
           pending = still_pending k u (sound.complies.valid.ticks u k h e).pending;
-          in_order = λ n b. each (λ i v. v.task ≡ (job_at (with_job run j) k).task → v.arrival < (job_at (with_job run j) k).arrival → v.cost ≤ service_of run i u)
+          in_order = λ n b. each (λ i v. v.task ≡ (job_at (with_job run j) k).task →
+              v.arrival < (job_at (with_job run j) k).arrival → v.cost ≤ service_of run i u)
               (λ i c same less. (sound.complies.valid.ticks u k h e).in_order i c
               (same ∙ ap (λ (v : Job). v.task) (job_of_tick u k (omega (arith, sound.now)) e))
               (omega (arith, less, ap (λ (v : Job). v.arrival) (job_of_tick u k (omega (arith, sound.now)) e))))
               (λ same less. absurd
-              (omega (arith, less, ap (λ (v : Job). v.arrival) (job_of_tick u k (omega (arith, sound.now)) e), sound.early k (sound.complies.valid.ticks u k h e).pending.listed)))
+              (omega (
+                arith,
+                less,
+                ap (λ (v : Job). v.arrival) (job_of_tick u k (omega (arith, sound.now)) e),
+                sound.early k (sound.complies.valid.ticks u k h e).pending.listed,
+              )))
               n b;
         };
       };
@@ -179,7 +194,8 @@ module _ (w : World) (laws : IsLawful w) (t : ℕ) (run : Run) (sound : IsSound 
           let q = old_pending n u (omega (arith, sound.now)) p in
           let same_k = job_of_tick u k (omega (arith, sound.now)) e in
           let same_n = job_kept run j n q.listed in
-          let old = sound.complies.policy u k n h e (subst (λ (v : Job). w.cuts.cuttable (task_at w.sheet v.task) v (service_of run k u) ≡ true) same_k cut) q in
+          let old = sound.complies.policy u k n h e
+          (subst (λ (v : Job). w.cuts.cuttable (task_at w.sheet v.task) v (service_of run k u) ≡ true) same_k cut) q in
           let half = subst (λ (v : Job). key_le (w.policy.key w.sheet (job_at run k)) (w.policy.key w.sheet v) ≡ true) (sym same_n) old in
           subst (λ (v : Job). key_le (w.policy.key w.sheet v) (w.policy.key w.sheet (job_at (with_job run j) n)) ≡ true) (sym same_k) half
           );

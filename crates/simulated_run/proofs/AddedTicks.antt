@@ -1,5 +1,6 @@
 -- One more tick.
-use Rattle.std.proofs.Common.{◌≡◌, ◌≢◌, ℕ, suc, ◌+◌, ◌-◌, ◌<◌, ◌≤◌, ◌⊎◌, Bool, true, false, cond, length, Option, Some, None, refl, sym, ◌∙◌, ap, subst, inl, inr, arith}
+use Rattle.std.proofs.Common.{◌≡◌, ◌≢◌, ℕ, suc, ◌+◌, ◌-◌, ◌<◌, ◌≤◌, ◌⊎◌, Bool, true, false, cond, length, Option, Some, None, refl, sym, ◌∙◌, ap}
+use Rattle.std.proofs.Common.{subst, inl, inr, arith}
 use Rattle.std.specs.Prelude.{nat_le}
 use Rattle.std.proofs.lemmas.Bool.{cases_Bool, cases_lt, leb-true}
 use Rattle.lists.proofs.FirstFacts.{all_parts}
@@ -56,7 +57,11 @@ module _ (w : World) (laws : IsLawful w) (t : ℕ) (run : Run) (sound : IsSound 
     inside = λ on i c g. ap Runs (sound.single k i b c f g);
     may_run = λ i e. (
         let s : k ≡ i = cc in
-        subst (λ v. MayRun run v t) s (record { pending = inside_pending k b f; in_order = λ n c same less. sound.ahead k n b c (inside_served k b f) same less })
+        subst (λ v. MayRun run v t) s (record {
+          pending = inside_pending k b f;
+          in_order =
+              λ n c same less. sound.ahead k n b c (inside_served k b f) same less;
+        })
         );
     policy = λ i n e cut p. (let s : k ≡ i = cc in let g = subst (λ v. can_cut w.cuts w.sheet run v t ≡ true) (sym s) cut in absurd (cc));
   }
@@ -69,12 +74,19 @@ module _ (w : World) (laws : IsLawful w) (t : ℕ) (run : Run) (sound : IsSound 
       λ i q. best_first (λ i. is_pending run i t) (comes_before w run) (length run.jobs) k i (comes_chain w run)
       (comes_itself w run) is q.listed (pending_to run i t q) in
       let pends : IsPending run k t = pending_from run k t p in
-      let orders : (n : ℕ) → n < length run.jobs → (job_at run n).task ≡ (job_at run k).task → (job_at run n).arrival < (job_at run k).arrival → IsDone run n t =
+      let orders : (n : ℕ) → n < length run.jobs → (job_at run n).task ≡ (job_at run k).task →
+      (job_at run n).arrival < (job_at run k).arrival → IsDone run n t =
       λ n c same less. elim (cases_lt (service_of run n t) (job_at run n).cost) [
         | inr l ↦ l
         | inl l ↦
-            let q : IsPending run n t = record { listed = c; released = omega (arith, (sound.complies.valid.releases k b).order n c same less, pends.released); not_done = l } in
-            let le = laws.policy.in_order (job_at run n) (job_at run k) (sound.complies.valid.jobs n c).task (sound.complies.valid.jobs k b).task same (omega arith) in
+            let q : IsPending run n t = record {
+              listed = c;
+              released =
+                  omega (arith, (sound.complies.valid.releases k b).order n c same less, pends.released);
+              not_done = l;
+            } in
+            let le = laws.policy.in_order (job_at run n) (job_at run k) (sound.complies.valid.jobs n c).task
+            (sound.complies.valid.jobs k b).task same (omega arith) in
             let first : comes_before w run n k ≡ true = earlier_first w run n k le same less in
             let g = is_first n q in
             absurd (cc)
@@ -86,7 +98,8 @@ module _ (w : World) (laws : IsLawful w) (t : ℕ) (run : Run) (sound : IsSound 
         may_run = λ i e. (let s : k ≡ i = cc in subst (λ v. MayRun run v t) s (record { pending = pends; in_order = orders }));
         policy =
             λ i n e cut q.
-            (let s : k ≡ i = cc in subst (λ v. key_le (w.policy.key w.sheet (job_at run v)) (w.policy.key w.sheet (job_at run n)) ≡ true) s (later_key w run k n (is_first n q)));
+            (let s : k ≡ i = cc in subst (λ v. key_le (w.policy.key w.sheet (job_at run v))
+            (w.policy.key w.sheet (job_at run n)) ≡ true) s (later_key w run k n (is_first n q)));
       }
 
   pub choice_follows : MayFollow w t run (choice w run t)
@@ -103,7 +116,8 @@ module _ (w : World) (laws : IsLawful w) (t : ℕ) (run : Run) (sound : IsSound 
           let is : choice w run t ≡ Idle = ap (λ (o : Option ℕ). chosen o (most_urgent w run t)) never.is ∙ ap (chosen None) nobody in
           subst (MayFollow w t run) (sym is) (record {
             off = λ e. absurd (cc);
-            idle = λ e k p. (let z = no_best (λ k. is_pending run k t) (comes_before w run) (length run.jobs) k nobody p.listed in let y = pending_to run k t p in absurd (cc));
+            idle = λ e k p. (let z = no_best (λ k. is_pending run k t) (comes_before w run)
+                (length run.jobs) k nobody p.listed in let y = pending_to run k t p in absurd (cc));
             inside = λ on k b g. absurd (let z = never.all k b in cc);
             may_run = λ k e. absurd (cc);
             policy = λ k n e. absurd (cc);
@@ -160,7 +174,8 @@ module _ (w : World) (laws : IsLawful w) (t : ℕ) (run : Run) (sound : IsSound 
     after_tick k b f = elim (cases_Bool (runs k y)) [
       | inl r ↦ inl (runs_tells k y r)
       | inr r ↦
-          let e : service_of (with_tick run y) k (suc t) ≡ service_of run k t = omega (arith, service_new run y k t sound.now, ap (λ (b : Bool). cond {A = ℕ} b 1 0) r) in
+          let e : service_of (with_tick run y) k (suc t) ≡ service_of run k t =
+          omega (arith, service_new run y k t sound.now, ap (λ (b : Bool). cond {A = ℕ} b 1 0) r) in
           inr (ap (w.cuts.cuttable (task_at w.sheet (job_at run k).task) (job_at run k)) (sym e) ∙ f)
     ]
 
@@ -211,7 +226,8 @@ module _ (w : World) (laws : IsLawful w) (t : ℕ) (run : Run) (sound : IsSound 
     sound_early k b = omega (arith, sound.early k b)
 
     sound_next : (k state : ℕ) → k < length (with_tick run y).jobs →
-        (job_at (with_tick run y) k).release ≤ released_by w.mode (task_at w.sheet (job_at (with_tick run y) k).task).jitter (suc t) (last_release (job_at (with_tick run y) k).task (with_tick run y).jobs) state
+        (job_at (with_tick run y) k).release ≤ released_by w.mode (task_at w.sheet (job_at (with_tick run y) k).task).jitter
+        (suc t) (last_release (job_at (with_tick run y) k).task (with_tick run y).jobs) state
     unfolding with_tick
     sound_next k state b =
         omega (
@@ -242,7 +258,11 @@ module _ (w : World) (laws : IsLawful w) (t : ℕ) (run : Run) (sound : IsSound 
 
     may_run_there : (k u : ℕ) → u ≤ t → MayRun run k u → MayRun (with_tick run y) k u
     may_run_there k u h m =
-        record { pending = there k u h m.pending; in_order = λ n b same less. done_there n u h (m.in_order n (old_job n b) (old_task n k same) (old_arrival n k less)) }
+        record {
+          pending = there k u h m.pending;
+          in_order =
+              λ n b same less. done_there n u h (m.in_order n (old_job n b) (old_task n k same) (old_arrival n k less));
+        }
 
     sound_ahead : (k n : ℕ) → k < length (with_tick run y).jobs → n < length (with_tick run y).jobs →
         0 < service_of (with_tick run y) k (suc t) →

@@ -25,7 +25,10 @@ module _ (curve : Curve) (o t : ℕ) (run : Run) where
   fits_admitted n fits = all_from (λ s. nat_le (arrivals_of run o s t + n) (alpha_of curve (t + 1 - s))) (t + 1) (λ s h. le-leb _ _ (fits.few s (omega arith)))
 
   pub admitted_fits : (n : ℕ) → admits curve o run t n ≡ true → FitsIn curve o t n run
-  admitted_fits n h = record { few = λ s b. leb-true _ _ (all_parts (λ s. nat_le (arrivals_of run o s t + n) (alpha_of curve (t + 1 - s))) (t + 1) s h (omega arith)) }
+  admitted_fits n h = record {
+    few =
+        λ s b. leb-true _ _ (all_parts (λ s. nat_le (arrivals_of run o s t + n) (alpha_of curve (t + 1 - s))) (t + 1) s h (omega arith));
+  }
 
   -- more than a tight number are not admitted
   pub tight_refused : (n k : ℕ) → IsTight curve o t n run → n < k → admits curve o run t k ≡ false
@@ -47,7 +50,8 @@ module _ (curve : Curve) (o t : ℕ) (run : Run) where
             let e : t + 1 - t ≡ 1 = omega arith in
             record { start = t; within = omega arith; many = omega (arith, most, ap (alpha_of curve) e) }
         | inl less ↦
-            let fails : admits curve o run t (g + 1) ≡ false = greatest_above (admits curve o run t) (alpha_of curve 1) (g + 1) (omega arith) (omega (arith, less)) in
+            let fails : admits curve o run t (g + 1) ≡ false = greatest_above (admits curve o run t) (alpha_of curve 1) (g + 1)
+            (omega arith) (omega (arith, less)) in
             let s = some_broken (λ s. nat_le (arrivals_of run o s t + (g + 1)) (alpha_of curve (t + 1 - s))) (t + 1) fails in
             record { start = s.0; within = omega (arith, s.1); many = omega (arith, leb-false _ _ s.2) }
       ]

@@ -52,7 +52,8 @@ module _ (w : World) (run : Run) (t : ℕ) where
       let f = best_found (λ k. is_pending run k t) (comes_before w run) (length run.jobs) k e in
       record {
         pending = pending_from run k t f.passes;
-        first = λ n p. best_first (λ k. is_pending run k t) (comes_before w run) (length run.jobs) k n (comes_chain w run) (comes_itself w run) e p.listed (pending_to run n t p);
+        first = λ n p. best_first (λ k. is_pending run k t) (comes_before w run) (length run.jobs) k n (comes_chain w run)
+            (comes_itself w run) e p.listed (pending_to run n t p);
       }
 
   pub urgent_none : most_urgent w run t ≡ None → (k : ℕ) → IsPending run k t → ⊥
@@ -71,7 +72,8 @@ module _ (w : World) (run : Run) (t : ℕ) where
 
   pub none_urgent : ((k : ℕ) → IsPending run k t → ⊥) → most_urgent w run t ≡ None
   unfolding most_urgent
-  none_urgent none = best_none (λ k. is_pending run k t) (comes_before w run) (length run.jobs) (λ k b. false_from_ne_true _ (λ h. none k (pending_from run k t h)))
+  none_urgent none = best_none (λ k. is_pending run k t) (comes_before w run) (length run.jobs)
+      (λ k b. false_from_ne_true _ (λ h. none k (pending_from run k t h)))
 
 module _ (sbf : ℕ → ℕ) (run : Run) (t : ℕ) (now : length run.ticks ≡ t) where
   -- where the new tick is off, a window that ends with it has the ticks before it

@@ -8,14 +8,16 @@ use Rattle.schedule_laws.specs.Compliance.{arrives_in, arrivals_of}
 use Rattle.simulated_run.specs.declared.mode.Mode.{Mode}
 use Rattle.simulated_run.specs.declared.mode.Mode.TheVariants.{Dense}
 use Rattle.simulated_run.specs.Jobs.{new_job, last_release}
-use Rattle.simulated_run.specs.SimulatedRun.{World, Moment, arriving, after_arriving, room, add_job, add_jobs, arrive_of, arrive_below, moment_after, simulated_run}
+use Rattle.simulated_run.specs.SimulatedRun.{World, Moment, arriving, after_arriving, room, add_job, add_jobs, arrive_of, arrive_below, moment_after}
+use Rattle.simulated_run.specs.SimulatedRun.{simulated_run}
 use Rattle.simulated_run.specs.Laws.{IsDense}
 use Rattle.simulated_run.proofs.AllowanceFacts.{allowance_tight}
 use Rattle.simulated_run.proofs.GrowthFacts.{BeginsWith, begins_trans, tasks_in_turn, moment_extends, moments_in_turn}
 use Rattle.simulated_run.proofs.RunFacts.{arrivals_more, arrivals_le, arrivals_front}
 
 counts : (o s t : ℕ) (j : Job) → j.task ≡ o → j.arrival ≡ t → s ≤ t → arrives_in o s (t + 1) j ≡ true
-counts o s t j of at h = and_from _ _ (eq-eqb j.task o of) (and_from _ _ (le-leb s j.arrival (omega (arith, at))) (lt-ltb j.arrival (t + 1) (omega (arith, at))))
+counts o s t j of at h = and_from _ _ (eq-eqb j.task o of)
+    (and_from _ _ (le-leb s j.arrival (omega (arith, at))) (lt-ltb j.arrival (t + 1) (omega (arith, at))))
 
 module _ (w : World) where
   -- n jobs more are in every window that ends with t

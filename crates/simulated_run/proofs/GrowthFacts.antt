@@ -4,7 +4,8 @@ use Rattle.std.proofs.lemmas.Bool.{cases_lt}
 use Rattle.std.proofs.lemmas.List.{append_assoc, append-nil, length-append, get_or_append_left}
 use Rattle.task_sheet.specs.declared.tasks.Job.{Job}
 use Rattle.run_model.specs.Runs.{job_at, no_job}
-use Rattle.simulated_run.specs.SimulatedRun.{World, Moment, with_job, with_tick, add_job, add_jobs, arrive_of, arrive_below, add_tick, moment_after, arriving, after_arriving, room}
+use Rattle.simulated_run.specs.SimulatedRun.{World, Moment, with_job, with_tick, add_job, add_jobs, arrive_of, arrive_below, add_tick, moment_after}
+use Rattle.simulated_run.specs.SimulatedRun.{arriving, after_arriving, room}
 
 -- the list begins with the other
 pub record BeginsWith {X : Type 0} (xs front : List X) : Type 0 where
@@ -47,12 +48,14 @@ module _ (w : World) where
   jobs_in_turn o t n zero m h = let e : n ≡ 0 = omega arith in subst (λ i. Extends m (add_jobs w o t i m)) (sym e) (begins_itself m.run.jobs)
   jobs_in_turn o t n (suc k) m h = elim (cases_lt n (suc k)) [
     | inl c ↦ begins_trans _ _ _ (job_extends o t (add_jobs w o t k m)) (jobs_in_turn o t n k m (omega arith))
-    | inr c ↦ let e : suc k ≡ n = omega arith in subst (λ i. Extends (add_jobs w o t (suc k) m) (add_jobs w o t i m)) e (begins_itself (add_jobs w o t (suc k) m).run.jobs)
+    | inr c ↦ let e : suc k ≡ n = omega arith in subst (λ i. Extends (add_jobs w o t (suc k) m) (add_jobs w o t i m)) e
+        (begins_itself (add_jobs w o t (suc k) m).run.jobs)
   ]
 
   pub arrivals_extend : (o t : ℕ) (m : Moment) → Extends (arrive_of w o t m) m
   unfolding arrive_of
-  arrivals_extend o t m = jobs_extend o t (arriving w.mode (room w o t m) m.state) (record { run = m.run; state = after_arriving w.mode (room w o t m) m.state })
+  arrivals_extend o t m = jobs_extend o t (arriving w.mode (room w o t m) m.state)
+      (record { run = m.run; state = after_arriving w.mode (room w o t m) m.state })
 
   pub tasks_extend : (t n : ℕ) (m : Moment) → Extends (arrive_below w t n m) m
   tasks_extend t zero m = begins_itself m.run.jobs
@@ -63,7 +66,8 @@ module _ (w : World) where
   tasks_in_turn t n zero m h = let e : n ≡ 0 = omega arith in subst (λ i. Extends m (arrive_below w t i m)) (sym e) (begins_itself m.run.jobs)
   tasks_in_turn t n (suc k) m h = elim (cases_lt n (suc k)) [
     | inl c ↦ begins_trans _ _ _ (arrivals_extend k t (arrive_below w t k m)) (tasks_in_turn t n k m (omega arith))
-    | inr c ↦ let e : suc k ≡ n = omega arith in subst (λ i. Extends (arrive_below w t (suc k) m) (arrive_below w t i m)) e (begins_itself (arrive_below w t (suc k) m).run.jobs)
+    | inr c ↦ let e : suc k ≡ n = omega arith in subst (λ i. Extends (arrive_below w t (suc k) m) (arrive_below w t i m)) e
+        (begins_itself (arrive_below w t (suc k) m).run.jobs)
   ]
 
   pub tick_extends : (t : ℕ) (m : Moment) → Extends (add_tick w t m) m
@@ -78,10 +82,12 @@ module _ (w : World) where
   next_extends n = begins_trans _ _ _ (moment_extends n) (tasks_extend n (length w.sheet.tasks) (moment_after w n))
 
   pub moments_in_turn : (n k : ℕ) → n ≤ k → Extends (moment_after w k) (moment_after w n)
-  moments_in_turn n zero h = let e : n ≡ 0 = omega arith in subst (λ i. Extends (moment_after w 0) (moment_after w i)) (sym e) (begins_itself (moment_after w 0).run.jobs)
+  moments_in_turn n zero h = let e : n ≡ 0 = omega arith in subst (λ i. Extends (moment_after w 0) (moment_after w i)) (sym e)
+      (begins_itself (moment_after w 0).run.jobs)
   moments_in_turn n (suc k) h = elim (cases_lt n (suc k)) [
     | inl c ↦ begins_trans _ _ _ (next_extends k) (moments_in_turn n k (omega arith))
-    | inr c ↦ let e : suc k ≡ n = omega arith in subst (λ i. Extends (moment_after w (suc k)) (moment_after w i)) e (begins_itself (moment_after w (suc k)).run.jobs)
+    | inr c ↦ let e : suc k ≡ n = omega arith in subst (λ i. Extends (moment_after w (suc k)) (moment_after w i)) e
+        (begins_itself (moment_after w (suc k)).run.jobs)
   ]
 
   -- arrivals leave the ticks, and each tick is one more
@@ -95,7 +101,8 @@ module _ (w : World) where
 
   pub arrivals_keep_ticks : (o t : ℕ) (m : Moment) → (arrive_of w o t m).run.ticks ≡ m.run.ticks
   unfolding arrive_of
-  arrivals_keep_ticks o t m = jobs_keep_ticks o t (arriving w.mode (room w o t m) m.state) (record { run = m.run; state = after_arriving w.mode (room w o t m) m.state })
+  arrivals_keep_ticks o t m = jobs_keep_ticks o t (arriving w.mode (room w o t m) m.state)
+      (record { run = m.run; state = after_arriving w.mode (room w o t m) m.state })
 
   pub tasks_keep_ticks : (t n : ℕ) (m : Moment) → (arrive_below w t n m).run.ticks ≡ m.run.ticks
   tasks_keep_ticks t zero m = refl

@@ -1,5 +1,6 @@
 -- A new job fits its task.
-use Rattle.std.proofs.Common.{◌≡◌, ℕ, zero, suc, ◌+◌, ◌*◌, ◌/◌, ◌%◌, ◌≤◌, true, List, [], ◌∷◌, ◌++◌, length, replicate, sum, refl, sym, ◌∙◌, inl, inr, arith, leb}
+use Rattle.std.proofs.Common.{◌≡◌, ℕ, zero, suc, ◌+◌, ◌*◌, ◌/◌, ◌%◌, ◌≤◌, true, List, [], ◌∷◌, ◌++◌, length, replicate, sum, refl, sym, ◌∙◌, inl, inr}
+use Rattle.std.proofs.Common.{arith, leb}
 use Rattle.std.proofs.lemmas.Bool.{cases_eq, and_from, and_parts, leb-true, le-leb, eq-eqb, ne_eqb}
 use Rattle.std.specs.List.{list_all}
 use Rattle.lists.specs.Ranges.{is_between}
@@ -52,7 +53,8 @@ pub bounds_sum : (n bound : ℕ) (rest : List ℕ) → sum (replicate n bound ++
 bounds_sum zero bound rest = omega arith
 bounds_sum (suc n) bound rest = omega (arith, sum_more bound (replicate n bound ++ rest), bounds_sum n bound rest)
 
-pub bounds_within : (n bound : ℕ) (rest : List ℕ) → 1 ≤ bound → are_lengths_within bound rest ≡ true → are_lengths_within bound (replicate n bound ++ rest) ≡ true
+pub bounds_within : (n bound : ℕ) (rest : List ℕ) → 1 ≤ bound → are_lengths_within bound rest ≡ true →
+    are_lengths_within bound (replicate n bound ++ rest) ≡ true
 bounds_within zero bound rest low h = h
 bounds_within (suc n) bound rest low h =
     and_from _ _ (and_from (leb 1 bound) (leb bound bound) (le-leb 1 bound low) (le-leb bound bound (omega arith)))
@@ -146,7 +148,8 @@ module _ (mode : Mode) (task : Task) (ok : IsTask task) (o t last state : ℕ) w
   unfolding new_job
   new_fits =
       and_from _ _
-      (and_from _ _ (le-leb _ _ (cost_fits mode task.cut task.cost state ok.cost_low ok.cut).low) (le-leb _ _ (cost_fits mode task.cut task.cost state ok.cost_low ok.cut).high))
+      (and_from _ _ (le-leb _ _ (cost_fits mode task.cut task.cost state ok.cost_low ok.cut).low)
+      (le-leb _ _ (cost_fits mode task.cut task.cost state ok.cost_low ok.cut).high))
       (segments_by_fit mode task.cut task.cost o t _ state ok.cut)
 
   -- and so by every kind of the table that serves the task

@@ -56,7 +56,8 @@ by_number_is : (a b c d e f : ℕ) → by_number (a, b, c) (d, e, f) ≡ is_lt (
 by_number_is a b c d e f = then_number a d _ _ (then_number b e _ _ (number_is c f))
 
 by_key_is : (p q u v : ℤ) (b : Bool) (r : Ordering) → b ≡ is_lt r →
-    (not (int_lt q p || (int_eq q p && int_le v u)) || ((int_lt p q || (int_eq p q && int_le u v)) && b)) ≡ is_lt (ordering_then (int_cmp p q) (ordering_then (int_cmp u v) r))
+    (not (int_lt q p || (int_eq q p && int_le v u)) || ((int_lt p q || (int_eq p q && int_le u v)) && b)) ≡ is_lt
+    (ordering_then (int_cmp p q) (ordering_then (int_cmp u v) r))
 by_key_is p q u v b r h = grind (arith, ints)
 
 -- the key of a place
@@ -64,7 +65,8 @@ abbrev key_of : Place → Key
 key_of a = record { high = a.high; low = a.low }
 
 place_is : (a b : Place) →
-    (not (key_le (key_of b) (key_of a)) || (key_le (key_of a) (key_of b) && by_number (a.task, a.arrival, a.number) (b.task, b.arrival, b.number))) ≡ is_lt (place_cmp a b)
+    (not (key_le (key_of b) (key_of a)) ||
+    (key_le (key_of a) (key_of b) && by_number (a.task, a.arrival, a.number) (b.task, b.arrival, b.number))) ≡ is_lt (place_cmp a b)
 place_is a b =
     by_key_is a.high b.high a.low b.low (by_number (a.task, a.arrival, a.number) (b.task, b.arrival, b.number))
     (ordering_then (nat_cmp a.task b.task) (ordering_then (nat_cmp a.arrival b.arrival) (nat_cmp a.number b.number)))
@@ -78,7 +80,8 @@ lt_less Greater h = absurd (cc)
 place_chain : (a b c : Place) → is_lt (place_cmp a b) ≡ true → is_lt (place_cmp c b) ≡ false → is_lt (place_cmp c a) ≡ false
 place_chain a b c h k = elim (cases_Bool (is_lt (place_cmp c a))) [
   | inr f ↦ f
-  | inl e ↦ absurd (let l : place_cmp c b ≡ Less = place_total.trans c a b (lt_less _ e) (lt_less _ h) in let m : is_lt (place_cmp c b) ≡ true = ap is_lt l in cc)
+  | inl e ↦ absurd (let l : place_cmp c b ≡ Less = place_total.trans c a b (lt_less _ e) (lt_less _ h) in let m : is_lt
+      (place_cmp c b) ≡ true = ap is_lt l in cc)
 ]
 
 not_left : (a b : Bool) → (not a || b) ≡ false → a ≡ true

@@ -1,5 +1,6 @@
 -- A run with one job more, or with one tick more.
-use Rattle.std.proofs.Common.{◌≡◌, ℕ, zero, suc, ◌+◌, ◌<◌, ◌≤◌, Bool, true, false, cond, List, [], ◌∷◌, ◌++◌, length, get_or, take, drop, count_by, refl, ◌∙◌, ap, arith, length-drop}
+use Rattle.std.proofs.Common.{◌≡◌, ℕ, zero, suc, ◌+◌, ◌<◌, ◌≤◌, Bool, true, false, cond, List, [], ◌∷◌, ◌++◌, length, get_or, take, drop, count_by}
+use Rattle.std.proofs.Common.{refl, ◌∙◌, ap, arith, length-drop}
 use Rattle.std.proofs.lemmas.Bool.{false_from_ne_true}
 use Rattle.std.proofs.lemmas.List.{take-append-le, take_all, get_or_at, get_or_append_left, drop-append-le, append_assoc, append-nil}
 use Rattle.lists.proofs.SumFacts.{cond_le, count_more}
@@ -18,7 +19,8 @@ use Rattle.simulated_run.proofs.GrowthFacts.{length_more, BeginsWith}
 count_push : {X : Type 0} (p : X → Bool) (xs : List X) (x : X) → count_by p (xs ++ x ∷ []) ≡ count_by p xs + cond (p x) 1 0
 count_push {X} p xs x =
     let n : length (xs ++ x ∷ []) ≡ suc (length xs) = length_more xs x in
-    let step : count_by p (take (suc (length xs)) (xs ++ x ∷ [])) ≡ count_by p (take (length xs) (xs ++ x ∷ [])) + cond (p (get_or (xs ++ x ∷ []) (length xs) x)) 1 0 =
+    let step : count_by p (take (suc (length xs)) (xs ++ x ∷ [])) ≡ count_by p (take (length xs) (xs ++ x ∷ [])) + cond
+    (p (get_or (xs ++ x ∷ []) (length xs) x)) 1 0 =
     count_more p (xs ++ x ∷ []) x (length xs) (omega arith) in
     let all : take (suc (length xs)) (xs ++ x ∷ []) ≡ xs ++ x ∷ [] = take_all (suc (length xs)) (xs ++ x ∷ []) (omega arith) in
     let front : take (length xs) (xs ++ x ∷ []) ≡ xs = take-append-le (length xs) xs (x ∷ []) (omega arith) ∙ take_all (length xs) xs (omega arith) in
@@ -69,7 +71,12 @@ pub service_unlisted : (run : Run) (n k t : ℕ) → t ≤ length run.ticks → 
 service_unlisted run n k zero h l b = service_none run k
 service_unlisted run n k (suc t) h l b =
     let f : runs k (tick_at run t) ≡ false = false_from_ne_true _ (λ e. (let m = l t k (omega arith) (runs_tells k (tick_at run t) e) in omega arith)) in
-    omega (arith, service_more run k t (omega arith), service_unlisted run n k t (omega arith) (λ u m c. l u m (omega arith)) b, ap (λ (w : Bool). cond {A = ℕ} w 1 0) f)
+    omega (
+      arith,
+      service_more run k t (omega arith),
+      service_unlisted run n k t (omega arith) (λ u m c. l u m (omega arith)) b,
+      ap (λ (w : Bool). cond {A = ℕ} w 1 0) f,
+    )
 
 module _ (run : Run) (j : Job) where
   pub jobs_more : length (with_job run j).jobs ≡ suc (length run.jobs)
@@ -115,14 +122,20 @@ module _ (run : Run) (x : Tick) where
 
   pub service_new : (k t : ℕ) → length run.ticks ≡ t → service_of (with_tick run x) k (suc t) ≡ service_of run k t + cond (runs k x) 1 0
   service_new k t h =
-      omega (arith, service_more (with_tick run x) k t (omega (arith, ticks_more)), service_kept k t (omega arith), ap (λ (w : Tick). cond {A = ℕ} (runs k w) 1 0) (tick_new t h))
+      omega (
+        arith,
+        service_more (with_tick run x) k t (omega (arith, ticks_more)),
+        service_kept k t (omega arith),
+        ap (λ (w : Tick). cond {A = ℕ} (runs k w) 1 0) (tick_new t h),
+      )
 
   -- a window that ends before the new tick
   pub window_kept : (test : Tick → Bool) (a d : ℕ) → a + d ≤ length run.ticks → ticks_in test (with_tick run x) a d ≡ ticks_in test run a d
   unfolding with_tick ticks_in
   window_kept test a d h =
       let e : drop a (run.ticks ++ x ∷ []) ≡ drop a run.ticks ++ x ∷ [] = drop-append-le a run.ticks (x ∷ []) (omega arith) in
-      ap (λ (l : List Tick). count_by test (take d l)) e ∙ ap (λ (l : List Tick). count_by test l) (take-append-le d (drop a run.ticks) (x ∷ []) (simp length-drop (omega arith)))
+      ap (λ (l : List Tick). count_by test (take d l)) e ∙
+      ap (λ (l : List Tick). count_by test l) (take-append-le d (drop a run.ticks) (x ∷ []) (simp length-drop (omega arith)))
 
   -- one that ends with it
   pub window_new : (test : Tick → Bool) (a d : ℕ) → a + d ≡ length run.ticks →

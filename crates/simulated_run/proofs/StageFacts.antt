@@ -49,7 +49,8 @@ module _ (w : World) (laws : IsLawful w) (t : ℕ) (run : Run) (sound : IsSound 
 
   -- the number of the next job has no service yet
   pub next_unserved : (u : ℕ) → u ≤ t → service_of run (length run.jobs) u ≡ 0
-  next_unserved u h = service_unlisted run (length run.jobs) (length run.jobs) u (omega (arith, sound.now)) (λ v m b e. tick_listed v m (omega arith) e) (omega arith)
+  next_unserved u h = service_unlisted run (length run.jobs) (length run.jobs) u (omega (arith, sound.now))
+      (λ v m b e. tick_listed v m (omega arith) e) (omega arith)
 
   -- a job that has not begun, or is done, can be cut
   pub unbegun_cut : (k : ℕ) → k < length run.jobs → service_of run k t ≡ 0 → can_cut w.cuts w.sheet run k t ≡ true

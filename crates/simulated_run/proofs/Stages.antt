@@ -18,7 +18,8 @@ use Rattle.schedule_laws.specs.Compliance.{arrives_in, arrivals_of, IsCompliant}
 use Rattle.simulated_run.specs.declared.mode.Mode.{Mode}
 use Rattle.simulated_run.specs.declared.mode.Mode.TheVariants.{Dense, Seed}
 use Rattle.simulated_run.specs.Jobs.{after_load, new_job, last_release}
-use Rattle.simulated_run.specs.SimulatedRun.{World, Moment, with_job, with_tick, admits, allowance_of, arriving, after_arriving, is_off, may_be_off, choice, room, add_job, add_jobs, arrive_of, arrive_below, add_tick, moment_after, simulated_run}
+use Rattle.simulated_run.specs.SimulatedRun.{World, Moment, with_job, with_tick, admits, allowance_of, arriving, after_arriving, is_off, may_be_off}
+use Rattle.simulated_run.specs.SimulatedRun.{choice, room, add_job, add_jobs, arrive_of, arrive_below, add_tick, moment_after, simulated_run}
 use Rattle.simulated_run.proofs.RunFacts.{job_kept, job_new, jobs_more, arrivals_more, arrivals_le}
 use Rattle.simulated_run.proofs.JobFacts.{new_fits_by}
 use Rattle.simulated_run.proofs.Soundness.{IsLawful, IsSound, HasRoom}
@@ -73,13 +74,18 @@ module _ (w : World) (laws : IsLawful w) where
       let curve = (task_at w.sheet o).curve in
       let none : admits curve o run t 0 ≡ true =
       all_from (λ s. nat_le (arrivals_of run o s t + 0) (alpha_of curve (t + 1 - s))) (t + 1)
-      (λ s h. le-leb _ _ (omega (arith, sound.complies.curves o s t b (omega arith), alpha_mono curve (laws.sheet.each o b).curve (t - s) (t + 1 - s) (omega arith)))) in
+      (λ s h. le-leb _ _ (omega (
+        arith,
+        sound.complies.curves o s t b (omega arith),
+        alpha_mono curve (laws.sheet.each o b).curve (t - s) (t + 1 - s) (omega arith),
+      ))) in
       let all : admits curve o run t (allowance_of curve o run t) ≡ true = greatest_passes (admits curve o run t) (alpha_of curve 1) none in
       λ s h. (
       let at : arrivals_of run o s t + allowance_of curve o run t ≤ alpha_of curve (t + 1 - s) =
       leb-true _ _
       (all_parts (λ s. nat_le (arrivals_of run o s t + allowance_of curve o run t) (alpha_of curve (t + 1 - s))) (t + 1) s all (omega arith)) in
-      let same : arrivals_of run o s (suc t) ≤ arrivals_of run o s t = arrivals_le run o s (suc t) s t (λ k c e. (let f = fresh k c in grind (arith, nat_tests))) in
+      let same : arrivals_of run o s (suc t) ≤ arrivals_of run o s t =
+      arrivals_le run o s (suc t) s t (λ k c e. (let f = fresh k c in grind (arith, nat_tests))) in
       omega (arith, at, same)
       )
 
@@ -97,7 +103,8 @@ module _ (w : World) (laws : IsLawful w) where
   amid_job o t n m b amid =
       let last : ℕ = last_release o m.run.jobs in
       let j : Job = new_job w.mode (task_at w.sheet o) o t last m.state in
-      let fits : w.cuts.fits (task_at w.sheet o) j ≡ true = new_fits_by w.mode (task_at w.sheet o) (laws.sheet.each o b) o t last m.state w.cuts (laws.tabled o b) in
+      let fits : w.cuts.fits (task_at w.sheet o) j ≡ true =
+      new_fits_by w.mode (task_at w.sheet o) (laws.sheet.each o b) o t last m.state w.cuts (laws.tabled o b) in
       record {
         sound = sound_job w laws t m.run amid.sound j b refl fits (after_load w.mode (task_at w.sheet o) m.state) refl (λ s h. omega (arith, amid.left s h));
         left = λ s h. omega (arith, amid.left s h, arrivals_more m.run j o s (suc t), at_most_one (arrives_in o s (suc t) j));
@@ -177,7 +184,8 @@ module _ (w : World) (laws : IsLawful w) where
 
   -- whatever the generator's state
   pub amid : (t o r : ℕ) (state : ℕ) → o < length w.sheet.tasks → r ≤ room w o t (arrive_below w t o (moment_after w t)) →
-      IsAmid w o t (room w o t (arrive_below w t o (moment_after w t)) - r) (add_jobs w o t r (record { run = (arrive_below w t o (moment_after w t)).run; state = state })).run
+      IsAmid w o t (room w o t (arrive_below w t o (moment_after w t)) - r)
+      (add_jobs w o t r (record { run = (arrive_below w t o (moment_after w t)).run; state = state })).run
   amid t o r state b h =
       let m : Moment = arrive_below w t o (moment_after w t) in
       amid_jobs o t (room w o t m) r (record { run = m.run; state = state }) b h (amid_start o t m b (between t o (omega arith)))

@@ -15,7 +15,8 @@ use Rattle.simulated_run.specs.SimulatedRun.{world_of, simulated_run}
 -- a simulated run of any length, in any mode, complies with its sheet
 abbrev pub SimulationComplies : PolicyMeaning → CutMeaning → (ℕ → ℕ) → Type 0
 SimulationComplies p m sbf =
-    (sheet : SheetParts) → IsValidSheet sheet → Serves m sheet → (mode : Mode) (n : ℕ) → IsCompliant p m sbf sheet (simulated_run (world_of p m sbf sheet mode) n)
+    (sheet : SheetParts) → IsValidSheet sheet → Serves m sheet → (mode : Mode) (n : ℕ) →
+    IsCompliant p m sbf sheet (simulated_run (world_of p m sbf sheet mode) n)
 
 -- with one more job of task o at t some window that ends with t has more arrivals than the curve says
 pub record IsFull (sheet : SheetParts) (run : Run) (o t : ℕ) : Type 0 where

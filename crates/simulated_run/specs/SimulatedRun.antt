@@ -82,7 +82,8 @@ unfoldable pub comes_before : World → Run → ℕ → ℕ → Bool
 comes_before w run k n =
     let mine = w.policy.key w.sheet (job_at run k) in
     let other = w.policy.key w.sheet (job_at run n) in
-    not (key_le other mine) || (key_le mine other && by_number ((job_at run k).task, (job_at run k).arrival, k) ((job_at run n).task, (job_at run n).arrival, n))
+    not (key_le other mine) || (key_le mine other && by_number ((job_at run k).task, (job_at run k).arrival, k)
+    ((job_at run n).task, (job_at run n).arrival, n))
 
 -- the first job that cannot be cut at t
 unfoldable pub inside_segment : World → Run → ℕ → Option ℕ

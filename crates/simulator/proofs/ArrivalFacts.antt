@@ -1,5 +1,6 @@
 -- The simulation, over one more job.
-use Rattle.std.proofs.Common.{◌≡◌, ℕ, suc, ◌+◌, ◌-◌, ◌<◌, ◌≤◌, Bool, true, cond, List, [], ◌∷◌, ◌++◌, length, Option, sym, ◌∙◌, ap, subst, inl, inr, arith, get_or}
+use Rattle.std.proofs.Common.{◌≡◌, ℕ, suc, ◌+◌, ◌-◌, ◌<◌, ◌≤◌, Bool, true, cond, List, [], ◌∷◌, ◌++◌, length, Option, sym, ◌∙◌, ap, subst, inl, inr}
+use Rattle.std.proofs.Common.{arith, get_or}
 use Rattle.std.specs.Global.{Vec}
 use Rattle.std.specs.BTreeMap.{BTreeMap}
 use Rattle.std.specs.BTreeSet.{BTreeSet}
@@ -69,10 +70,12 @@ job_is mode task own o t last before state now cost release segs same e f was is
 pub new_is : (mode : Mode) (m : CutMeaning) (sheet : SheetParts) (o t last state : ℕ) (jobs : List Job) →
     o < length sheet.tasks → IsTask (task_at sheet o) → IsLawfulCut m (task_at sheet o) →
     IsTabledCut m (task_at sheet o) → length jobs < 20000
-    → segments_of jobs + length (new_job mode (task_at sheet o) o t last state).segs ≤ 1000000 → IsNew m sheet jobs (new_job mode (task_at sheet o) o t last state)
+    → segments_of jobs + length (new_job mode (task_at sheet o) o t last state).segs ≤ 1000000 →
+    IsNew m sheet jobs (new_job mode (task_at sheet o) o t last state)
 unfolding new_job
 new_is mode m sheet o t last state jobs b ok law tabled few short =
-    let fits : m.fits (task_at sheet o) (new_job mode (task_at sheet o) o t last state) ≡ true = new_fits_by mode (task_at sheet o) ok o t last state m tabled in
+    let fits : m.fits (task_at sheet o) (new_job mode (task_at sheet o) o t last state) ≡ true =
+    new_fits_by mode (task_at sheet o) ok o t last state m tabled in
     record {
       known =
           record {
@@ -93,7 +96,8 @@ pub made_new : (mode : Mode) (m : CutMeaning) (sheet : SheetParts) (o t last sta
     IsLawfulCut m (task_at sheet o) → IsTabledCut m (task_at sheet o) → length jobs < 20000
     → segments_of jobs + length job.segs ≤ 1000000 → IsNew m sheet jobs job
 made_new mode m sheet o t last state jobs job e b ok law tabled few short =
-    subst (IsNew m sheet jobs) (sym e) (new_is mode m sheet o t last state jobs b ok law tabled few (subst (λ (v : Job). segments_of jobs + length v.segs ≤ 1000000) e short))
+    subst (IsNew m sheet jobs) (sym e)
+    (new_is mode m sheet o t last state jobs b ok law tabled few (subst (λ (v : Job). segments_of jobs + length v.segs ≤ 1000000) e short))
 
 -- the last releases, with one job more
 releases_more : (n : ℕ) (run : Run) (releases : List ℕ) (j : Job) → HasReleases n run releases → j.task < n →
@@ -123,7 +127,8 @@ module _ (p : PolicyMeaning) (m : CutMeaning) (sheet : SheetParts) (t : ℕ) (ru
     (x : Option ℕ) (total : ℕ) (lists : List (Vec ℕ)) (releases sums : List ℕ)
     (kept : IsKeptBy p m sheet t (suc t) (suc t) run left queue coming x total lists releases sums) where
   -- the simulation after a new job
-  pub kept_with : (j : Job) (n : ℕ) (r : Rank) (after : BTreeMap Rank ℕ) (then : BTreeSet Due) (run' : Run) (left' : List ℕ) (total' : ℕ) (lists' : List (Vec ℕ)) (longer : Vec ℕ) (releases' : List ℕ) →
+  pub kept_with : (j : Job) (n : ℕ) (r : Rank) (after : BTreeMap Rank ℕ) (then : BTreeSet Due) (run' : Run) (left' : List ℕ)
+      (total' : ℕ) (lists' : List (Vec ℕ)) (longer : Vec ℕ) (releases' : List ℕ) →
       IsNew m sheet run.jobs j → j.arrival ≡ t → n ≡ length run.jobs → r ≡ rank_at p sheet j n →
       IsTakenUp t r (record { release = j.release; number = n }) queue after coming then
       → run' ≡ with_job run j → left' ≡ left ++ j.cost ∷ [] → total' ≡ total + length j.segs → lists' ≡ set lists j.task longer →
@@ -134,17 +139,21 @@ module _ (p : PolicyMeaning) (m : CutMeaning) (sheet : SheetParts) (t : ℕ) (ru
       let known : IsKnown m sheet t j = subst (λ i. IsKnown m sheet i j) at_t new.known in
       let up' : IsTakenUp t (rank_at p sheet j n) (record { release = j.release; number = n }) queue after coming then =
       subst (λ (q : Rank). IsTakenUp t q (record { release = j.release; number = n }) queue after coming then) is_r up in
-      let done : IsKeptBy p m sheet t (suc t) (suc t) (with_job run j) (left ++ j.cost ∷ []) after then x total' (set lists j.task longer) (set releases j.task j.release) sums = record {
+      let done : IsKeptBy p m sheet t (suc t) (suc t) (with_job run j) (left ++ j.cost ∷ []) after then x total'
+      (set lists j.task longer) (set releases j.task j.release) sums = record {
         jobs = kept_job p m sheet t run left queue coming x kept.jobs after then j n len known new.positive new.cut new.few_jobs new.few_segments up';
         segments = omega (arith, is_total, kept.segments, segments_more run.jobs j);
-        arrivals = has_arrivals_more (length sheet.tasks) run lists j longer kept.arrivals new.known.task (λ k b. omega (arith, (kept.jobs.known k b).arrived)) is_longer;
+        arrivals = has_arrivals_more (length sheet.tasks) run lists j longer kept.arrivals new.known.task
+            (λ k b. omega (arith, (kept.jobs.known k b).arrived)) is_longer;
         releases = releases_more (length sheet.tasks) run releases j kept.releases new.known.task;
         counts = counts_job run j sums t kept.counts;
       } in
       subst (λ (v : Run). IsKeptBy p m sheet t (suc t) (suc t) v left' after then x total' lists' releases' sums) (sym is_run)
       (subst (λ (v : List ℕ). IsKeptBy p m sheet t (suc t) (suc t) (with_job run j) v after then x total' lists' releases' sums) (sym is_left)
-      (subst (λ (v : List (Vec ℕ)). IsKeptBy p m sheet t (suc t) (suc t) (with_job run j) (left ++ j.cost ∷ []) after then x total' v releases' sums) (sym is_lists)
-      (subst (λ (v : List ℕ). IsKeptBy p m sheet t (suc t) (suc t) (with_job run j) (left ++ j.cost ∷ []) after then x total' (set lists j.task longer) v sums) (sym is_releases) done)))
+      (subst (λ (v : List (Vec ℕ)). IsKeptBy p m sheet t (suc t) (suc t) (with_job run j)
+      (left ++ j.cost ∷ []) after then x total' v releases' sums) (sym is_lists)
+      (subst (λ (v : List ℕ). IsKeptBy p m sheet t (suc t) (suc t) (with_job run j) (left ++ j.cost ∷ []) after then x total'
+      (set lists j.task longer) v sums) (sym is_releases) done)))
 
 -- the run after one more job
 pub with_job_is : (run : Run) (jobs : List Job) (j : Job) → jobs ≡ run.jobs ++ j ∷ [] →
@@ -247,5 +256,6 @@ pub counts_promised : (w : World) (laws : IsLawful w) (t : ℕ) (run : Run) (sum
     run ≡ (arrive_below w t (length w.sheet.tasks) (moment_after w t)).run → AreCounts run sums t → counts ≡ sums →
     ArePromised w.sbf counts t
 counts_promised w laws t run sums counts stage are is =
-    let here : IsBetween w (length w.sheet.tasks) t run = subst (IsBetween w (length w.sheet.tasks) t) (sym stage) (between w laws t (length w.sheet.tasks) (omega arith)) in
+    let here : IsBetween w (length w.sheet.tasks) t run = subst (IsBetween w (length w.sheet.tasks) t) (sym stage)
+    (between w laws t (length w.sheet.tasks) (omega arith)) in
     subst (λ (l : List ℕ). ArePromised w.sbf l t) (sym is) (promised_is w t run sums here.sound are)

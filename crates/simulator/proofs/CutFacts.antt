@@ -1,5 +1,6 @@
 -- Where the jobs of a simulation can be cut.
-use Rattle.std.proofs.Common.{◌≡◌, ℕ, zero, suc, ◌+◌, ◌-◌, ◌*◌, ◌/◌, ◌%◌, ◌<◌, ◌≤◌, ◌==◌, ◌||◌, Bool, true, false, List, ◌∷◌, ◌++◌, replicate, refl, sym, ◌∙◌, ap, subst, inl, inr, arith, leb}
+use Rattle.std.proofs.Common.{◌≡◌, ℕ, zero, suc, ◌+◌, ◌-◌, ◌*◌, ◌/◌, ◌%◌, ◌<◌, ◌≤◌, ◌==◌, ◌||◌, Bool, true, false, List, ◌∷◌, ◌++◌, replicate, refl}
+use Rattle.std.proofs.Common.{sym, ◌∙◌, ap, subst, inl, inr, arith, leb}
 use Rattle.std.proofs.Math.Nat.{add-mod_right, mod-eq_of_lt}
 use Rattle.std.proofs.lemmas.Bool.{cases_lt, ne_eqb, le-leb}
 use Rattle.std.proofs.lemmas.Bool.Decides.{nat_tests}
@@ -49,7 +50,8 @@ pub floating_cut : (bound cost s : ℕ) → 1 ≤ bound → ((s % bound == 0) ||
 unfolding floating_segments
 floating_cut bound cost s l = elim (cases_lt s cost) [
   | inl c ↦ ap (λ (b : Bool). b || leb cost s) (sym (bounds_prefix (cost / bound) bound (cost % bound) s l (omega arith) (omega arith)))
-  | inr c ↦ or_right (s % bound == 0) (leb cost s) (le-leb cost s c) ∙ sym (or_right (is_prefix_sum (floating_segments bound cost) s) (leb cost s) (le-leb cost s c))
+  | inr c ↦ or_right (s % bound == 0) (leb cost s) (le-leb cost s c) ∙
+      sym (or_right (is_prefix_sum (floating_segments bound cost) s) (leb cost s) (le-leb cost s c))
 ]
 
 -- so they are for every kind of the table that serves the task
@@ -62,7 +64,14 @@ floating_cuttable m task j bound s ok tabled is floats =
     ∙ (ap (λ (l : List ℕ). is_prefix_sum l s || leb j.cost s) (sym segs) ∙ (ap (λ (c : Cut). cuttable_by c j s) (sym is) ∙ sym (tabled.same_cuts j s)))
 
 floats_by : (mode : Mode) (cut : Cut) (o t r cost state : ℕ) →
-    FloatsBy cut (record { task = o; arrival = t; release = r; cost = cost_by mode cut cost state; segs = segments_by mode cut (cost_by mode cut cost state) state })
+    FloatsBy cut (record {
+      task = o;
+      arrival = t;
+      release = r;
+      cost = cost_by mode cut cost state;
+      segs =
+          segments_by mode cut (cost_by mode cut cost state) state;
+    })
 floats_by mode Full o t r cost state = tt
 floats_by mode Never o t r cost state = tt
 floats_by mode (Fixed segments) o t r cost state = tt

@@ -1,5 +1,6 @@
 -- The gaps of a curve: how they grow, and that they imply what the curve says.
-use Rattle.std.proofs.Common.{◌≡◌, ℕ, zero, suc, ◌+◌, ◌-◌, ◌<◌, ◌≤◌, ◌⊎◌, Bool, true, false, cond, List, [], ◌∷◌, ◌++◌, length, get_or, max, Option, Some, None, refl, sym, ◌∙◌, ap, subst, inl, inr, arith, leb, ltb}
+use Rattle.std.proofs.Common.{◌≡◌, ℕ, zero, suc, ◌+◌, ◌-◌, ◌<◌, ◌≤◌, ◌⊎◌, Bool, true, false, cond, List, [], ◌∷◌, ◌++◌, length, get_or, max, Option}
+use Rattle.std.proofs.Common.{Some, None, refl, sym, ◌∙◌, ap, subst, inl, inr, arith, leb, ltb}
 use Rattle.std.specs.List.Sorted.{IsNonDecreasing}
 use Rattle.std.proofs.lemmas.Bool.{cases_lt, le-leb, lt-leb, ltb-true, ltb-false}
 use Rattle.std.proofs.lemmas.List.{get_or_append_left, get_or_at}
@@ -25,7 +26,8 @@ use Rattle.simulator.specs.Gaps.{gap_at, no_gap, opened_by, earliest_by, IsWindo
 pub window_stays : (c : Curve) (n w : ℕ) → IsWindow c n w → n + 1 < alpha_of c w → IsWindow c (n + 1) w
 window_stays c n w was more = record { low = was.low; admits = more; full = λ d h. omega (arith, was.full d h) }
 
-pub window_rises : (c : Curve) (ok : IsCurve c) (n w r : ℕ) → IsWindow c n w → alpha_of c w ≤ n + 1 → IsLeastTo (IsRise c w) greatest_length (Some r) → IsWindow c (n + 1) r
+pub window_rises : (c : Curve) (ok : IsCurve c) (n w r : ℕ) → IsWindow c n w → alpha_of c w ≤ n + 1 →
+    IsLeastTo (IsRise c w) greatest_length (Some r) → IsWindow c (n + 1) r
 window_rises c ok n w r was few rises =
     let later = rises.1.holds.later in
     record {
@@ -153,7 +155,8 @@ module _ (c : Curve) (ok : IsCurve c) (gaps : List Gap) (list : List ℕ) (windo
         length gaps,
         omega (arith, len),
         subst (λ (v : Gap). v.count ≤ length list) (sym here) (omega arith),
-        subst (λ (v : Gap). x ≡ get_or (list ++ x ∷ []) (length list - v.count) 0 + v.distance) (sym here) (omega (arith, first, ap (λ i. get_or (list ++ x ∷ []) i 0) none)),
+        subst (λ (v : Gap). x ≡ get_or (list ++ x ∷ []) (length list - v.count) 0 + v.distance) (sym here)
+            (omega (arith, first, ap (λ i. get_or (list ++ x ∷ []) i 0) none)),
       ) in
       let low : IsLow g = record { low = omega (arith, some); high = high } in
       let full : IsFullBelow c (length list) (x + 1) = λ d h. next.full d (omega (arith, far)) in
@@ -166,7 +169,8 @@ module _ (c : Curve) (ok : IsCurve c) (gaps : List Gap) (list : List ℕ) (windo
         | inl l ↦ subst (λ (v : Gap). IsFullBelow c v.count (v.distance + 1)) (sym (kept i l)) (are.full i l)
         | inr l ↦
             let e : i ≡ length gaps = omega (arith, len) in
-            subst (λ k. IsFullBelow c (gap_at more k).count ((gap_at more k).distance + 1)) (sym e) (subst (λ (v : Gap). IsFullBelow c v.count (v.distance + 1)) (sym here) full)
+            subst (λ k. IsFullBelow c (gap_at more k).count ((gap_at more k).distance + 1)) (sym e)
+            (subst (λ (v : Gap). IsFullBelow c v.count (v.distance + 1)) (sym here) full)
       ])
       next (omega (arith, far)) high (inr new)
 
@@ -176,7 +180,8 @@ module _ (c : Curve) (ok : IsCurve c) (gaps : List Gap) (list : List ℕ) (windo
   grown_by true x w count next is high test len =
       let low = next.low in
       let more : earliest_by gaps list < x = ltb-true _ _ (sym test) in
-      subst (λ n. AreGaps c (gaps ++ (let g : Gap = record { count = n; distance = x } in g) ∷ []) (list ++ x ∷ []) w) (sym len) (grown_gap x w next (omega (arith, is)) high)
+      subst (λ n. AreGaps c (gaps ++ (let g : Gap = record { count = n; distance = x } in g) ∷ []) (list ++ x ∷ []) w) (sym len)
+      (grown_gap x w next (omega (arith, is)) high)
   grown_by false x w count next is high test len =
       let low = next.low in
       let less : x ≤ earliest_by gaps list = ltb-false _ _ (sym test) in
@@ -216,10 +221,12 @@ module _ (c : Curve) (gaps : List Gap) (list : List ℕ) (window : ℕ) (are : A
   unfolding allowance_in
   shut_from j n d b is full = λ v h l. (
       let p = past j b in
-      let many : length xs - j ≤ arrived_in xs (get_or xs j 0) v = arrived_least xs (get_or xs j 0) v j (λ k a e. ascending j k 0 a e) (λ k e. omega (arith, past k e, h)) in
+      let many : length xs - j ≤ arrived_in xs (get_or xs j 0) v =
+      arrived_least xs (get_or xs j 0) v j (λ k a e. ascending j k 0 a e) (λ k e. omega (arith, past k e, h)) in
       let few : alpha_of c (v + 1 - get_or xs j 0) ≤ n = full (v + 1 - get_or xs j 0) (omega (arith, l, h, p)) in
       greatest_is (admits_in c xs v) 0 (alpha_of c 1) (omega arith) (inl refl)
-      (λ k a e. all_broken (λ s. leb (arrived_in xs s v + k) (alpha_of c (v + 1 - s))) (v + 1) (get_or xs j 0) (omega (arith, h, p)) (lt-leb _ _ (omega (arith, many, few, is, a))))
+      (λ k a e. all_broken (λ s. leb (arrived_in xs s v + k) (alpha_of c (v + 1 - s))) (v + 1) (get_or xs j 0)
+      (omega (arith, h, p)) (lt-leb _ _ (omega (arith, many, few, is, a))))
       )
 
   pub earliest_shuts : IsShutFor c xs t (earliest_by gaps xs)
@@ -236,7 +243,8 @@ module _ (c : Curve) (gaps : List Gap) (list : List ℕ) (window : ℕ) (are : A
 
 module _ (c : Curve) (ok : IsCurve c) (gaps : List Gap) (list : List ℕ) (window : ℕ) (are : AreGaps c gaps list window)
     (xs : List ℕ) (t : ℕ) (past : IsPast c xs t) where
-  gap_apart : (i j : ℕ) → i < length gaps → (gap_at gaps i).count ≤ j → j < length xs → get_or xs (j - (gap_at gaps i).count) 0 + (gap_at gaps i).distance ≤ get_or xs j 0
+  gap_apart : (i j : ℕ) → i < length gaps → (gap_at gaps i).count ≤ j → j < length xs →
+      get_or xs (j - (gap_at gaps i).count) 0 + (gap_at gaps i).distance ≤ get_or xs j 0
   gap_apart i j b h l =
       let n : ℕ = (gap_at gaps i).count in
       let d : ℕ = (gap_at gaps i).distance in
@@ -247,7 +255,8 @@ module _ (c : Curve) (ok : IsCurve c) (gaps : List Gap) (list : List ℕ) (windo
         | inl close ↦
             let order : from ≤ to = past.ascending (j - n) j 0 (omega arith) l in
             let many : j + 1 - (j - n) ≤ arrived_in xs from (to + 1) =
-            arrived_range xs from (to + 1) (j - n) (j + 1) (omega (arith, l)) (λ k a e. past.ascending (j - n) k 0 a (omega (arith, e, l))) (λ k a e. omega (arith, past.ascending k j 0 (omega (arith, e)) l)) in
+            arrived_range xs from (to + 1) (j - n) (j + 1) (omega (arith, l))
+            (λ k a e. past.ascending (j - n) k 0 a (omega (arith, e, l))) (λ k a e. omega (arith, past.ascending k j 0 (omega (arith, e)) l)) in
             let within : arrived_in xs from (to + 1) ≤ alpha_of c (to + 1 - from) = past.within from (to + 1) (omega (arith, order)) in
             let few : alpha_of c (to + 1 - from) ≤ n = are.full i b (to + 1 - from) (omega (arith, close, order)) in
             absurd (omega (arith, many, within, few, h))
@@ -263,7 +272,8 @@ module _ (c : Curve) (ok : IsCurve c) (gaps : List Gap) (list : List ℕ) (windo
     | inr p ↦
         let low = (are.low p.0 p.1).low in
         let n : ℕ = (gap_at gaps p.0).count in
-        let rest : get_or xs i 0 + get_or list (k - n) 0 ≤ get_or xs (i + (k - n)) 0 = apart fuel (k - n) i (omega (arith, low, h)) (omega (arith, b)) (omega (arith, l)) in
+        let rest : get_or xs i 0 + get_or list (k - n) 0 ≤ get_or xs (i + (k - n)) 0 =
+        apart fuel (k - n) i (omega (arith, low, h)) (omega (arith, b)) (omega (arith, l)) in
         let step = gap_apart p.0 (i + k) p.1 (omega (arith, p.2)) b in
         let same : i + (k - n) ≡ i + k - n = omega (arith, p.2) in
         omega (arith, rest, step, p.3, ap (λ v. get_or xs v 0) same)
@@ -277,7 +287,8 @@ module _ (c : Curve) (ok : IsCurve c) (gaps : List Gap) (list : List ℕ) (windo
         let n : ℕ = (gap_at gaps p.0).count in
         let d : ℕ = (gap_at gaps p.0).distance in
         let fits : n ≤ length xs = omega (arith, p.2) in
-        let reached : get_or xs (length xs - n) 0 + d ≤ t = omega (arith, early, max_at_least (λ k. opened_by xs (gap_at gaps k)) (length gaps) p.0 p.1, opened_at xs (gap_at gaps p.0) fits) in
+        let reached : get_or xs (length xs - n) 0 + d ≤ t =
+        omega (arith, early, max_at_least (λ k. opened_by xs (gap_at gaps k)) (length gaps) p.0 p.1, opened_at xs (gap_at gaps p.0) fits) in
         let rest : get_or xs i 0 + get_or list (length xs - i - n) 0 ≤ get_or xs (i + (length xs - i - n)) 0 =
         apart (length xs) (length xs - i - n) i (omega arith) (omega (arith, low, b, p.2)) (omega (arith, all)) in
         let same : i + (length xs - i - n) ≡ length xs - n = omega (arith, p.2, b) in

@@ -1,5 +1,6 @@
 -- What the simulation keeps, over one more job and one more tick.
-use Rattle.std.proofs.Common.{◌≡◌, ◌≢◌, ℕ, suc, ◌+◌, ◌-◌, ◌<◌, ◌≤◌, Bool, true, false, cond, List, [], ◌∷◌, ◌++◌, length, Option, Some, None, refl, sym, ◌∙◌, ap, subst, inl, inr, arith}
+use Rattle.std.proofs.Common.{◌≡◌, ◌≢◌, ℕ, suc, ◌+◌, ◌-◌, ◌<◌, ◌≤◌, Bool, true, false, cond, List, [], ◌∷◌, ◌++◌, length, Option, Some, None, refl}
+use Rattle.std.proofs.Common.{sym, ◌∙◌, ap, subst, inl, inr, arith}
 use Rattle.std.specs.Global.{Vec}
 use Rattle.std.specs.BTreeMap.{BTreeMap}
 use Rattle.std.specs.BTreeSet.{BTreeSet}
@@ -98,12 +99,18 @@ module _ (p : PolicyMeaning) (m : CutMeaning) (sheet : SheetParts) (t : ℕ) (ru
       | inl c ↦ subst (λ (v : Job). IsKnown m sheet t v) (sym (job_kept run j k c)) (kept.known k c)
       | inr c ↦
           let at : length run.jobs ≡ k = omega (arith, jobs_more run j) in
-          subst (λ i. IsKnown m sheet t (job_at (with_job run j) i)) at (subst (λ (v : Job). IsKnown m sheet t v) (sym (job_new run j (length run.jobs) refl)) known)
+          subst (λ i. IsKnown m sheet t (job_at (with_job run j) i)) at
+          (subst (λ (v : Job). IsKnown m sheet t v) (sym (job_new run j (length run.jobs) refl)) known)
     ];
     listed = λ u k b e. omega (arith, kept.listed u k b e, jobs_more run j);
     lefts = omega (arith, jobs_more run j, length_more left j.cost, kept.lefts);
     amounts = λ k b. elim (cases_lt k (length run.jobs)) [
-      | inl c ↦ omega (arith, kept.amounts k c, get_or_append_left left (j.cost ∷ []) 0 k (omega (arith, kept.lefts)), ap (λ (v : Job). v.cost) (job_kept run j k c))
+      | inl c ↦ omega (
+        arith,
+        kept.amounts k c,
+        get_or_append_left left (j.cost ∷ []) 0 k (omega (arith, kept.lefts)),
+        ap (λ (v : Job). v.cost) (job_kept run j k c),
+      )
       | inr c ↦
           let at : length run.jobs ≡ k = omega (arith, jobs_more run j) in
           omega (
@@ -116,13 +123,18 @@ module _ (p : PolicyMeaning) (m : CutMeaning) (sheet : SheetParts) (t : ℕ) (ru
           )
     ];
     waiting = queue_push p sheet run.jobs left t queue after coming then j j.cost n (sym len) (omega (arith, kept.lefts)) pos kept.waiting up;
-    segment = only_more (λ k. can_cut m sheet run k t) (λ k. can_cut m sheet (with_job run j) k t) (length run.jobs) (length (with_job run j).jobs) x (jobs_more run j)
+    segment = only_more (λ k. can_cut m sheet run k t) (λ k. can_cut m sheet (with_job run j) k t) (length run.jobs)
+        (length (with_job run j).jobs) x (jobs_more run j)
         (λ k b. ap (λ (v : Job). m.cuttable (task_at sheet v.task) v (service_of run k t)) (job_kept run j k b))
         (ap (λ (v : Job). m.cuttable (task_at sheet v.task) v (service_of run (length run.jobs) t))
         (job_new run j (length run.jobs) refl) ∙
         (ap (m.cuttable (task_at sheet j.task) j) (unserved (length run.jobs) (omega arith)) ∙ cut))
         kept.segment;
-    begun = λ k e. omega (arith, kept.begun k e, ap (λ (v : Job). v.release) (job_kept run j k (only_listed (λ i. can_cut m sheet run i t) (length run.jobs) x k kept.segment e)));
+    begun = λ k e. omega (
+      arith,
+      kept.begun k e,
+      ap (λ (v : Job). v.release) (job_kept run j k (only_listed (λ i. can_cut m sheet run i t) (length run.jobs) x k kept.segment e)),
+    );
     within = within_more run.jobs j kept.within few short;
   }
 
@@ -136,7 +148,8 @@ module _ (p : PolicyMeaning) (m : CutMeaning) (sheet : SheetParts) (t : ℕ) (ru
   ]
 
   -- a tick that runs no job
-  pub kept_tick : (y : Tick) → ((k : ℕ) → runs k y ≡ false) → ((k : ℕ) → y ≢ Runs k) → IsKeptAt p m sheet (suc t) (suc t) (suc t) (with_tick run y) left queue coming x
+  pub kept_tick : (y : Tick) → ((k : ℕ) → runs k y ≡ false) → ((k : ℕ) → y ≢ Runs k) →
+      IsKeptAt p m sheet (suc t) (suc t) (suc t) (with_tick run y) left queue coming x
   unfolding with_tick
   kept_tick y quiet ne =
       let same : (k : ℕ) → service_of (with_tick run y) k (suc t) ≡ service_of run k t =
@@ -169,7 +182,8 @@ module _ (p : PolicyMeaning) (m : CutMeaning) (sheet : SheetParts) (t : ℕ) (ru
       λ k ne. omega
       (arith, service_new run (Runs j) k t kept.now, ap (λ (b : Bool). cond {A = ℕ} b 1 0) (ne_eqb j k (λ e. ne (sym e)))) in
       let given : (job_at run j).cost - rest ≡ service_of (with_tick run (Runs j)) j (suc t) = omega (arith, kept.amounts j b, here) in
-      let new_cut : can_cut m sheet (with_tick run (Runs j)) j (suc t) ≡ cut = ap (m.cuttable (task_at sheet (job_at run j).task) (job_at run j)) (sym given) ∙ sym is_cut in
+      let new_cut : can_cut m sheet (with_tick run (Runs j)) j (suc t) ≡ cut =
+      ap (m.cuttable (task_at sheet (job_at run j).task) (job_at run j)) (sym given) ∙ sym is_cut in
       record {
         now = omega (arith, ticks_more run (Runs j), kept.now);
         known = later;
@@ -203,7 +217,8 @@ unfolding inside_segment
 kept_inside w t run left queue coming x kept = only_first (λ k. can_cut w.cuts w.sheet run k t) (length run.jobs) x kept.segment
 
 -- with other jobs in the queue
-pub kept_waiting : (p : PolicyMeaning) (m : CutMeaning) (sheet : SheetParts) (t u v u' v' : ℕ) (run : Run) (left : List ℕ) (queue queue' : BTreeMap Rank ℕ) (coming coming' : BTreeSet Due)
+pub kept_waiting : (p : PolicyMeaning) (m : CutMeaning) (sheet : SheetParts) (t u v u' v' : ℕ) (run : Run) (left : List ℕ)
+    (queue queue' : BTreeMap Rank ℕ) (coming coming' : BTreeSet Due)
     (x : Option ℕ) (total : ℕ) (lists : List (Vec ℕ)) (releases sums : List ℕ) →
     IsKeptBy p m sheet t u v run left queue coming x total lists releases sums → u ≤ u' → IsQueue p sheet run.jobs left u' v' queue' coming' →
     IsKeptBy p m sheet t u' v' run left queue' coming' x total lists releases sums

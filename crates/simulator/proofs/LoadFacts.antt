@@ -1,5 +1,6 @@
 -- The segments of a new job.
-use Rattle.std.proofs.Common.{◌≡◌, ℕ, suc, ◌+◌, ◌-◌, ◌<◌, ◌≤◌, true, List, [], ◌∷◌, ◌++◌, length, get_or, drop, sum, subst, refl, sym, ◌∙◌, ap, inl, inr, arith, leb, add-one, append_assoc, drop-cons}
+use Rattle.std.proofs.Common.{◌≡◌, ℕ, suc, ◌+◌, ◌-◌, ◌<◌, ◌≤◌, true, List, [], ◌∷◌, ◌++◌, length, get_or, drop, sum, subst, refl, sym, ◌∙◌, ap, inl}
+use Rattle.std.proofs.Common.{inr, arith, leb, add-one, append_assoc, drop-cons}
 use Rattle.std.specs.List.{list_all}
 use Rattle.std.proofs.lemmas.Bool.{cases_Bool, and_parts, leb-true}
 use Rattle.std.proofs.lemmas.List.Folds.{list_all_at}
@@ -20,7 +21,8 @@ pub drawn_next : (gs done : List ℕ) (i d state : ℕ) → i < length gs →
     done ++ (drawn_cost (get_or gs i d) state ∷ []) ++ drawn_segments (drop (i + 1) gs) (next state) ≡ done ++ drawn_segments (drop i gs) state
 drawn_next gs done i d state h =
     let e : drop i gs ≡ get_or gs i d ∷ drop (i + 1) gs = rw add-one (drop-cons gs i d h) in
-    append_assoc done (drawn_cost (get_or gs i d) state ∷ []) (drawn_segments (drop (i + 1) gs) (next state)) ∙ ap (λ (l : List ℕ). done ++ drawn_segments l state) (sym e)
+    append_assoc done (drawn_cost (get_or gs i d) state ∷ []) (drawn_segments (drop (i + 1) gs) (next state)) ∙
+    ap (λ (l : List ℕ). done ++ drawn_segments l state) (sym e)
 
 pub after_next : (n i state : ℕ) → i < n → after (n - (i + 1)) (next state) ≡ after (n - i) state
 after_next n i state h =

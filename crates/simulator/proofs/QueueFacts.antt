@@ -1,5 +1,6 @@
 -- The queue of the jobs that are released and not done, and those to come.
-use Rattle.std.proofs.Common.{◌≡◌, ◌≢◌, ℕ, suc, ◌<◌, ◌≤◌, Bool, true, false, cond, List, [], ◌∷◌, ◌++◌, length, Some, None, IsSome, refl, sym, ◌∙◌, ap, subst, inl, inr, arith, get_or}
+use Rattle.std.proofs.Common.{◌≡◌, ◌≢◌, ℕ, suc, ◌<◌, ◌≤◌, Bool, true, false, cond, List, [], ◌∷◌, ◌++◌, length, Some, None, IsSome, refl, sym, ◌∙◌}
+use Rattle.std.proofs.Common.{ap, subst, inl, inr, arith, get_or}
 use Rattle.std.specs.declared.cmp.Ordering.{Ordering}
 use Rattle.std.specs.declared.cmp.Ordering.TheVariants.{Less, Equal, Greater}
 use Rattle.std.specs.Ordering.{is_gt, is_lt, nat_cmp, ordering_then, ordering_reverse}
@@ -199,8 +200,11 @@ module _ (p : PolicyMeaning) (sheet : SheetParts) where
           listed = old.listed;
           rank = old.rank;
           released = old.released;
-          waits = elim (cases_eq k i)
-              [ inl e ↦ omega (arith, ap (left_at (set left i c)) e, get_or-set_same left i c 0 b) | inr ne ↦ omega (arith, old.waits, get_or-set_other left i k c 0 ne) ];
+          waits = elim (cases_eq k i) [
+            | inl e ↦ omega (arith, ap (left_at (set left i c)) e, get_or-set_same left i c 0 b)
+            | inr ne ↦
+                omega (arith, old.waits, get_or-set_other left i k c 0 ne)
+          ];
         }
         );
     due = λ d h. (
@@ -209,11 +213,15 @@ module _ (p : PolicyMeaning) (sheet : SheetParts) where
           listed = old.listed;
           release = old.release;
           later = old.later;
-          waits = elim (cases_eq d.number i)
-              [ inl e ↦ omega (arith, ap (left_at (set left i c)) e, get_or-set_same left i c 0 b) | inr ne ↦ omega (arith, old.waits, get_or-set_other left i d.number c 0 ne) ];
+          waits = elim (cases_eq d.number i) [
+            | inl e ↦ omega (arith, ap (left_at (set left i c)) e, get_or-set_same left i c 0 b)
+            | inr ne ↦
+                omega (arith, old.waits, get_or-set_other left i d.number c 0 ne)
+          ];
         }
         );
-    complete = λ k h m. q.complete k h (elim (cases_eq k i) [ inl e ↦ omega (arith, ap (left_at left) e) | inr ne ↦ omega (arith, m, get_or-set_other left i k c 0 ne) ]);
+    complete = λ k h m. q.complete k h
+        (elim (cases_eq k i) [ inl e ↦ omega (arith, ap (left_at left) e) | inr ne ↦ omega (arith, m, get_or-set_other left i k c 0 ne) ]);
   }
 
   -- a job is done
@@ -243,7 +251,8 @@ module _ (p : PolicyMeaning) (sheet : SheetParts) where
     ];
     due = λ d h. (
         let old : IsToCome jobs left v d = q.due d h in
-        let other : d.number ≢ i = λ e. (let r : release_at jobs d.number ≡ release_at jobs i = ap (release_at jobs) e in let l = old.later in let f = old.release in omega arith) in
+        let other : d.number ≢ i = λ e. (let r : release_at jobs d.number ≡ release_at jobs i = ap (release_at jobs) e in let l =
+        old.later in let f = old.release in omega arith) in
         record { listed = old.listed; release = old.release; later = old.later; waits = omega (arith, old.waits, get_or-set_other left i d.number 0 0 other) }
         );
     complete = λ k h m. elim (cases_eq k i) [
@@ -324,7 +333,8 @@ module _ (w : World) (run : Run) (left : List ℕ) (queue : BTreeMap Rank ℕ) (
   queue_first k r got low =
       let here : IsEntry w.policy w.sheet run.jobs left (suc t) r k = q.sound r k got in
       let is_r : r ≡ rank_of w.policy w.sheet run.jobs k = here.rank in
-      best_some (λ i. is_pending run i t) (comes_before w run) k (length run.jobs) here.listed (tells.waits k here.listed (omega (arith, here.released)) here.waits) (λ i b pending ne. (
+      best_some (λ i. is_pending run i t) (comes_before w run) k (length run.jobs) here.listed
+      (tells.waits k here.listed (omega (arith, here.released)) here.waits) (λ i b pending ne. (
       let there : get rank_cmp queue (rank_of w.policy w.sheet run.jobs i) ≡ Some i = pending_queued i b pending in
       let some : IsSome (get rank_cmp queue (rank_of w.policy w.sheet run.jobs i)) = ap is_some there in
       let g : is_gt (rank_cmp (rank_of w.policy w.sheet run.jobs k) (rank_of w.policy w.sheet run.jobs i)) ≡ false =

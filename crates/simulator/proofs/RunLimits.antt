@@ -66,7 +66,8 @@ known_job m sheet t j valid tabled h known soon = record {
       known.cost;
 }
 
-pub kept_within : (p : PolicyMeaning) (m : CutMeaning) (sheet : SheetParts) (t u v : ℕ) (run : Run) (left : List ℕ) (queue : BTreeMap Rank ℕ) (coming : BTreeSet Due) (x : Option ℕ) →
+pub kept_within : (p : PolicyMeaning) (m : CutMeaning) (sheet : SheetParts) (t u v : ℕ) (run : Run) (left : List ℕ)
+    (queue : BTreeMap Rank ℕ) (coming : BTreeSet Due) (x : Option ℕ) →
     IsKeptAt p m sheet t u v run left queue coming x → IsValidSheet sheet →
     ((o : ℕ) → o < length sheet.tasks → IsTabledCut m (task_at sheet o)) → t ≤ 100000 →
     ((k : ℕ) → k < length run.jobs → IsReleased sheet run k) → IsWithinLimits run
@@ -75,5 +76,6 @@ kept_within p m sheet t u v run left queue coming x kept valid tabled h released
   few_ticks = omega (arith, kept.now);
   few_segments = kept.within.few_segments;
   jobs = All-from_get_or IsJob run.jobs no_job (λ k b. known_job m sheet t (job_at run k) valid tabled h (kept.known k b) (released k b).timely.soon);
-  ticks = All-from_get_or (IsTickOf (length run.jobs)) run.ticks Off (λ u b. tick_of (length run.jobs) (tick_at run u) (λ k e. kept.listed u k (omega (arith, kept.now)) e));
+  ticks = All-from_get_or (IsTickOf (length run.jobs)) run.ticks Off
+      (λ u b. tick_of (length run.jobs) (tick_at run u) (λ k e. kept.listed u k (omega (arith, kept.now)) e));
 }

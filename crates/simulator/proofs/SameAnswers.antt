@@ -44,7 +44,8 @@ lists_tick run o xs tick same = same
 pub lists_own : (run : Run) (o : ℕ) (xs : List ℕ) (job : Job) → job.task ≡ o → ListsArrivals run o xs →
     ListsArrivals (with_job run job) o (xs ++ job.arrival ∷ [])
 lists_own run o xs job e same s u =
-    let own : arrives_in o s u job ≡ (leb s job.arrival && ltb job.arrival u) = ap (λ (b : Bool). b && (leb s job.arrival && ltb job.arrival u)) (eq-eqb job.task o e) in
+    let own : arrives_in o s u job ≡ (leb s job.arrival && ltb job.arrival u) =
+    ap (λ (b : Bool). b && (leb s job.arrival && ltb job.arrival u)) (eq-eqb job.task o e) in
     omega (arith, same s u, arrivals_more run job o s u, arrived_push xs job.arrival s u, ap (λ (b : Bool). cond {A = ℕ} b 1 0) own)
 
 -- a job of another task arrives

@@ -35,7 +35,8 @@ unfolding arrivals_of
 arrivals_grow run later o s u b = arrivals_front run later.jobs o s u b
 
 tight_on : (c : Curve) (o t n : ℕ) (run later : Run) → BeginsWith later.jobs run.jobs → IsTight c o t n run → IsTight c o t n later
-tight_on c o t n run later b tight = record { start = tight.start; within = tight.within; many = omega (arith, tight.many, arrivals_grow run later o tight.start t b) }
+tight_on c o t n run later b tight =
+    record { start = tight.start; within = tight.within; many = omega (arith, tight.many, arrivals_grow run later o tight.start t b) }
 
 none_allowed : (c : Curve) (o t : ℕ) (run : Run) → IsTight c o t 0 run → allowance_of c o run t ≡ 0
 unfolding allowance_of
@@ -95,7 +96,8 @@ openings_later sheet run t openings are = record {
 pub openings_start : (sheet : SheetParts) (run : Run) (t n : ℕ) (openings : Openings) → n ≡ length sheet.tasks → openings.ticks.items ≡ replicate n 0 →
     openings.first ≡ 0 → HasGaps sheet openings.gaps.items → AreOpenings sheet run t openings
 openings_start sheet run t n openings len ticks first gaps =
-    let zero_at : (o : ℕ) → o < length sheet.tasks → get_or openings.ticks.items o 0 ≡ 0 = λ o h. ap (λ (l : List ℕ). get_or l o 0) ticks ∙ get_or-replicate n o 0 0 (omega arith) in
+    let zero_at : (o : ℕ) → o < length sheet.tasks →
+    get_or openings.ticks.items o 0 ≡ 0 = λ o h. ap (λ (l : List ℕ). get_or l o 0) ticks ∙ get_or-replicate n o 0 0 (omega arith) in
     record {
       shut = record { tasks = ap length ticks ∙ (length-replicate n 0 ∙ len); each = λ o h v a b. absurd (omega (arith, zero_at o h)) };
       gaps = gaps;
@@ -117,7 +119,14 @@ pub record AreArriving (sheet : SheetParts) (run : Run) (t m : ℕ) (ticks : Lis
 
 pub arriving_start : (sheet : SheetParts) (run : Run) (t first : ℕ) (openings : Openings) → AreOpenings sheet run t openings →
     AreArriving sheet run t 0 openings.ticks.items openings.gaps.items first
-arriving_start sheet run t first openings are = record { tasks = are.shut.tasks; come = λ o b h. absurd (omega arith); rest = λ o b h. are.shut.each o h; gaps = are.gaps; least = λ o b. absurd (omega arith) }
+arriving_start sheet run t first openings are = record {
+  tasks = are.shut.tasks;
+  come = λ o b h. absurd (omega arith);
+  rest =
+      λ o b h. are.shut.each o h;
+  gaps = are.gaps;
+  least = λ o b. absurd (omega arith);
+}
 
 pub gaps_pushed : (n : ℕ) (list more : List Gaps) (x : Gaps) → more ≡ list ++ x ∷ [] → length list ≡ n →
     ((o : ℕ) (d : Gaps) (c : Curve) → o < n → IsCurve c → IsGaps c (get_or list o d)) → ((c : Curve) → IsCurve c → IsGaps c x) →
@@ -148,10 +157,12 @@ arriving_next sheet run later t m first next new ticks list gaps h was b shut ar
       tasks = length-set ticks m next ∙ was.tasks;
       come = λ o l i. elim (cases_eq o m) [
         | inl is ↦ subst (λ k. IsShut sheet k later (suc t) (get_or (set ticks m next) k 0)) (sym is) (subst (IsShut sheet m later (suc t)) (sym here) shut)
-        | inr ne ↦ subst (IsShut sheet o later (suc t)) (sym (get_or-set_other ticks m o next 0 ne)) (shut_on sheet o run later (suc t) (get_or ticks o 0) b (was.come o (omega arith) i))
+        | inr ne ↦ subst (IsShut sheet o later (suc t)) (sym (get_or-set_other ticks m o next 0 ne))
+            (shut_on sheet o run later (suc t) (get_or ticks o 0) b (was.come o (omega arith) i))
       ];
       rest = λ o l i.
-          subst (IsShut sheet o later t) (sym (get_or-set_other ticks m o next 0 (λ is. omega arith))) (shut_on sheet o run later t (get_or ticks o 0) b (was.rest o (omega arith) i));
+          subst (IsShut sheet o later t) (sym (get_or-set_other ticks m o next 0 (λ is. omega arith)))
+          (shut_on sheet o run later t (get_or ticks o 0) b (was.rest o (omega arith) i));
       gaps = gaps_more sheet list m gaps was.gaps h are;
       least = λ o l. elim (cases_eq o m) [
         | inl is ↦ omega (arith, here, ap (λ k. get_or (set ticks m next) k 0) is)

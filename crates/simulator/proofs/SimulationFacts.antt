@@ -44,7 +44,8 @@ no_releases : (n : ℕ) (releases : List ℕ) → releases ≡ replicate n 0 →
 unfolding last_release
 no_releases n releases e = record { tasks = ap length e ∙ length-replicate n 0; each = λ o b. ap (λ (l : List ℕ). get_or l o 0) e ∙ get_or-replicate n o 0 0 b }
 
-pub kept_first : (p : PolicyMeaning) (m : CutMeaning) (sheet : SheetParts) (run : Run) (left : List ℕ) (queue : BTreeMap Rank ℕ) (coming : BTreeSet Due) (lists : List (Vec ℕ)) (releases sums : List ℕ) →
+pub kept_first : (p : PolicyMeaning) (m : CutMeaning) (sheet : SheetParts) (run : Run) (left : List ℕ) (queue : BTreeMap Rank ℕ)
+    (coming : BTreeSet Due) (lists : List (Vec ℕ)) (releases sums : List ℕ) →
     run ≡ no_run → left ≡ [] → queue.entries ≡ [] → coming.keys ≡ [] → length lists ≡ length sheet.tasks
     → ((o : ℕ) (d : Vec ℕ) → o < length sheet.tasks → (get_or lists o d).items ≡ []) → releases ≡ replicate (length sheet.tasks) 0 →
     sums ≡ 0 ∷ [] → IsKeptBy p m sheet 0 0 0 run left queue coming None 0 lists releases sums

@@ -1,5 +1,6 @@
 -- The simulation, over one more tick.
-use Rattle.std.proofs.Common.{◌≡◌, ℕ, suc, ◌+◌, ◌-◌, ◌<◌, ◌≤◌, Bool, true, false, cond, List, [], ◌∷◌, ◌++◌, length, Option, Some, None, refl, sym, ◌∙◌, ap, subst, inl, inr, arith, get_or}
+use Rattle.std.proofs.Common.{◌≡◌, ℕ, suc, ◌+◌, ◌-◌, ◌<◌, ◌≤◌, Bool, true, false, cond, List, [], ◌∷◌, ◌++◌, length, Option, Some, None, refl, sym}
+use Rattle.std.proofs.Common.{◌∙◌, ap, subst, inl, inr, arith, get_or}
 use Rattle.std.specs.Global.{Vec}
 use Rattle.std.specs.BTreeMap.{BTreeMap, Updates}
 use Rattle.std.specs.BTreeSet.{BTreeSet}
@@ -47,11 +48,13 @@ module _ (w : World) (t : ℕ) (run : Run) (left : List ℕ) (queue : BTreeMap R
       (queue_first w run left queue coming t kept.waiting (kept_tells w.policy w.cuts w.sheet t run left queue coming x kept) k f.rank f.there f.first)
 
   pub chosen_idle : x ≡ None → length queue.entries ≡ 0 → choice w run t ≡ Idle
-  chosen_idle e f = inside_is None e ∙ ap (chosen None) (queue_none w run left queue coming t kept.waiting (kept_tells w.policy w.cuts w.sheet t run left queue coming x kept) f)
+  chosen_idle e f = inside_is None e ∙
+      ap (chosen None) (queue_none w run left queue coming t kept.waiting (kept_tells w.policy w.cuts w.sheet t run left queue coming x kept) f)
 
 -- a tick that is chosen can be taken
 
-module _ (w : World) (cuts : HasCuts w) (t : ℕ) (m : Simulation) (kept : IsKeptAt w.policy w.cuts w.sheet t (suc t) (suc t) (run_of m) m.left.items m.queue m.coming m.inside) where
+module _ (w : World) (cuts : HasCuts w) (t : ℕ) (m : Simulation)
+    (kept : IsKeptAt w.policy w.cuts w.sheet t (suc t) (suc t) (run_of m) m.left.items m.queue m.coming m.inside) where
   over_cut : (k : ℕ) → k < length m.jobs.items → can_cut w.cuts w.sheet (run_of m) k t ≡ false → 0 < left_at m.left.items k
   over_cut k b f = elim (cases_lt 0 (left_at m.left.items k)) [
     | inl p ↦ p
@@ -84,14 +87,16 @@ module _ (w : World) (cuts : HasCuts w) (t : ℕ) (m : Simulation) (kept : IsKep
       let can : CanRun m.inside k = subst (λ (i : Option ℕ). CanRun i k) (sym e) refl in
       let may : MayBe m t (Runs k) = record { listed = seg.0; waits = over_cut k seg.0 seg.1; chosen = can; released = omega (arith, kept.begun k e) } in
       subst (MayBe m t) (sym (chosen_inside w t (run_of m) m.left.items m.queue m.coming m.inside kept k e)) may
-  may_at None e = subst (MayBe m t) (sym (inside_is w t (run_of m) m.left.items m.queue m.coming m.inside kept None e)) (may_urgent (most_urgent w (run_of m) t) refl e)
+  may_at None e = subst (MayBe m t) (sym (inside_is w t (run_of m) m.left.items m.queue m.coming m.inside kept None e))
+      (may_urgent (most_urgent w (run_of m) t) refl e)
 
   pub may_be : MayBe m t (choice w (run_of m) t)
   may_be = may_at m.inside refl
 
 -- after a job has run
 
-pub run_kept : (p : PolicyMeaning) (m : CutMeaning) (sheet : SheetParts) (t : ℕ) (run : Run) (left : List ℕ) (queue : BTreeMap Rank ℕ) (coming : BTreeSet Due) (x : Option ℕ) →
+pub run_kept : (p : PolicyMeaning) (m : CutMeaning) (sheet : SheetParts) (t : ℕ) (run : Run) (left : List ℕ)
+    (queue : BTreeMap Rank ℕ) (coming : BTreeSet Due) (x : Option ℕ) →
     IsKeptAt p m sheet t (suc t) (suc t) run left queue coming x
     → (j rest : ℕ) (v : Job) (k : Task) (after : BTreeMap Rank ℕ) (r : Rank) (cut : Bool) (y : Option ℕ) → j < length run.jobs → 0
     < left_at left j → CanRun x j → release_at run.jobs j ≤ t → rest ≡ left_at left j - 1
@@ -110,17 +115,20 @@ run_kept p m sheet t run left queue coming x kept j rest v k after r cut y b wai
           (queue_run p sheet run.jobs left (suc t) (suc t) queue coming j rest in_left waits pos kept.waiting)
       | inr pos ↦
           let z : 0 ≡ rest = omega arith in
-          let up : Updates rank_cmp queue after (rank_of p sheet run.jobs j) None = subst (λ (q : Rank). Updates rank_cmp queue after q None) rank (done (omega arith)) in
+          let up : Updates rank_cmp queue after (rank_of p sheet run.jobs j) None =
+          subst (λ (q : Rank). Updates rank_cmp queue after q None) rank (done (omega arith)) in
           subst (λ (i : ℕ). IsQueue p sheet run.jobs (set left j i) (suc t) (suc t) after coming) z
           (queue_done p sheet run.jobs left (suc t) (suc t) queue after coming j in_left (omega arith) kept.waiting up)
     ] in
     subst (λ (i : Option ℕ). IsKeptAt p m sheet (suc t) (suc t) (suc t) (with_tick run (Runs j)) (set left j rest) after coming i) (sym is_y)
     (kept_run p m sheet t run left queue coming x kept j rest after cut b can (omega arith) (omega arith) waiting tested)
 
-pub idle_kept : (p : PolicyMeaning) (m : CutMeaning) (sheet : SheetParts) (t : ℕ) (run : Run) (left : List ℕ) (queue : BTreeMap Rank ℕ) (coming : BTreeSet Due) (x : Option ℕ) →
+pub idle_kept : (p : PolicyMeaning) (m : CutMeaning) (sheet : SheetParts) (t : ℕ) (run : Run) (left : List ℕ)
+    (queue : BTreeMap Rank ℕ) (coming : BTreeSet Due) (x : Option ℕ) →
     IsKeptAt p m sheet t (suc t) (suc t) run left queue coming x
     → (y : Tick) → ((k : ℕ) → y ≡ Runs k → ⊥) → IsKeptAt p m sheet (suc t) (suc t) (suc t) (with_tick run y) left queue coming x
-idle_kept p m sheet t run left queue coming x kept y ne = kept_tick p m sheet t run left queue coming x kept y (λ k. false_from_ne_true _ (λ e. ne k (runs_tells k y e))) ne
+idle_kept p m sheet t run left queue coming x kept y ne = kept_tick p m sheet t run left queue coming x kept y
+    (λ k. false_from_ne_true _ (λ e. ne k (runs_tells k y e))) ne
 
 -- the tick as a whole
 
@@ -154,7 +162,8 @@ pub kept_then : (p : PolicyMeaning) (m : CutMeaning) (sheet : SheetParts) (t : �
     → lists' ≡ lists → releases' ≡ releases → n ≡ get_or sums t 0 + cond {A = ℕ} (is_on y) 1 0 → sums' ≡ sums ++ n ∷ [] →
     IsKeptBy p m sheet (suc t) (suc t) (suc t) run' left' queue' coming' x' total' lists' releases' sums'
 unfolding with_tick
-kept_then p m sheet t run run' left left' queue queue' coming coming' x x' total total' lists lists' releases releases' sums sums' y n kept then is_run is_total is_lists is_releases is_n is_sums =
+kept_then p m sheet t run run' left left' queue queue' coming coming' x x' total total' lists lists' releases releases' sums sums'
+    y n kept then is_run is_total is_lists is_releases is_n is_sums =
     let done : IsKeptBy p m sheet (suc t) (suc t) (suc t) (with_tick run y) left' queue' coming' x' total lists releases (sums ++ n ∷ []) = record {
       jobs = then;
       segments = kept.segments;

@@ -1,5 +1,6 @@
 -- What may arrive, and whether a tick may be off, from what the simulation keeps.
-use Rattle.std.proofs.Common.{◌≡◌, ◌≢◌, ℕ, suc, ◌+◌, ◌-◌, ◌<◌, ◌≤◌, cond, List, [], ◌∷◌, ◌++◌, length, get_or, take, add-one, refl, sym, ◌∙◌, ap, subst, inl, inr, arith}
+use Rattle.std.proofs.Common.{◌≡◌, ◌≢◌, ℕ, suc, ◌+◌, ◌-◌, ◌<◌, ◌≤◌, cond, List, [], ◌∷◌, ◌++◌, length, get_or, take, add-one, refl, sym, ◌∙◌, ap}
+use Rattle.std.proofs.Common.{subst, inl, inr, arith}
 use Rattle.std.specs.Global.{Vec}
 use Rattle.std.proofs.Math.ListN.{set}
 use Rattle.std.proofs.lemmas.Bool.{cases_eq}
@@ -54,20 +55,26 @@ has_arrivals_more n run lists j longer has b early e = record {
         sym e ∙ sym (ap (λ (v : Vec ℕ). v.items) (get_or-set_same lists j.task longer d in_lists)) in
         subst (λ i. AreArrivals (with_job run j) i (get_or (set lists j.task longer) i d).items) (sym same) (subst (AreArrivals (with_job run j) j.task) at own)
     | inr ne ↦
-        let at : (get_or lists o d).items ≡ (get_or (set lists j.task longer) o d).items = sym (ap (λ (v : Vec ℕ). v.items) (get_or-set_other lists j.task o longer d ne)) in
+        let at : (get_or lists o d).items ≡ (get_or (set lists j.task longer) o d).items =
+        sym (ap (λ (v : Vec ℕ). v.items) (get_or-set_other lists j.task o longer d ne)) in
         subst (AreArrivals (with_job run j) o) at (other_more run j o (get_or lists o d).items (λ s. ne (sym s)) (has.each o d h))
   ];
 }
 
 pub has_arrivals_tick : (n : ℕ) (run : Run) (lists : List (Vec ℕ)) (x : Tick) → HasArrivals n run lists → HasArrivals n (with_tick run x) lists
 has_arrivals_tick n run lists x has =
-    record { tasks = has.tasks; each = λ o d h. record { ascending = (has.each o d h).ascending; same = lists_tick run o (get_or lists o d).items x (has.each o d h).same } }
+    record {
+      tasks = has.tasks;
+      each =
+          λ o d h. record { ascending = (has.each o d h).ascending; same = lists_tick run o (get_or lists o d).items x (has.each o d h).same };
+    }
 
 pub has_no_arrivals : (n : ℕ) (lists : List (Vec ℕ)) → length lists ≡ n →
     ((o : ℕ) (d : Vec ℕ) → o < n → (get_or lists o d).items ≡ []) →
     HasArrivals n (record { jobs = []; ticks = [] }) lists
 has_no_arrivals n lists l none =
-    let empty : (o : ℕ) → AreArrivals (record { jobs = []; ticks = [] }) o [] = λ o. record { ascending = λ i j d h b. absurd (omega arith); same = lists_none o [] } in
+    let empty : (o : ℕ) → AreArrivals (record { jobs = []; ticks = [] }) o [] =
+    λ o. record { ascending = λ i j d h b. absurd (omega arith); same = lists_none o [] } in
     record { tasks = l; each = λ o d h. subst (AreArrivals (record { jobs = []; ticks = [] }) o) (sym (none o d h)) (empty o) }
 
 -- before the arrivals of task o at t

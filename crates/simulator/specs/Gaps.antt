@@ -42,7 +42,8 @@ AreNear arrivals = (i : ℕ) → i < length arrivals → slice_index_or arrivals
 
 -- number k of a list comes as early as some gap lets it come after those before it
 abbrev pub IsImplied : List Gap → List ℕ → ℕ → ℕ → Type 0
-IsImplied gaps list k x = (i : ℕ) × (i < length gaps) × ((gap_at gaps i).count ≤ k) × (x ≡ slice_index_or list (k - (gap_at gaps i).count) 0 + (gap_at gaps i).distance)
+IsImplied gaps list k x = (i : ℕ) × (i < length gaps) × ((gap_at gaps i).count ≤ k) ×
+    (x ≡ slice_index_or list (k - (gap_at gaps i).count) 0 + (gap_at gaps i).distance)
 
 pub record AreGaps (c : Curve) (gaps : List Gap) (list : List ℕ) (window : ℕ) : Type 0 where
   pub low : AreLow gaps

@@ -71,7 +71,8 @@ pub record IsToCome (jobs : List Job) (left : List ℕ) (v : ℕ) (d : Due) : Ty
   pub later : v ≤ d.release
 
 -- the jobs that are not done: those in the queue, and those to come
-pub record IsQueue (p : PolicyMeaning) (sheet : SheetParts) (jobs : List Job) (left : List ℕ) (u v : ℕ) (queue : BTreeMap Rank ℕ) (coming : BTreeSet Due) : Type 0 where
+pub record IsQueue (p : PolicyMeaning) (sheet : SheetParts) (jobs : List Job) (left : List ℕ) (u v : ℕ) (queue : BTreeMap Rank ℕ)
+    (coming : BTreeSet Due) : Type 0 where
   pub sound : (q : Rank) (k : ℕ) → get rank_cmp queue q ≡ Some k → IsEntry p sheet jobs left u q k
   pub due : (d : Due) → contains due_cmp coming d ≡ true → IsToCome jobs left v d
   pub complete : (k : ℕ) → k < length jobs → 0 < left_at left k →
@@ -117,7 +118,8 @@ pub record IsWithin (jobs : List Job) : Type 0 where
   pub few_segments : segments_of jobs ≤ most_segments
 
 -- what the simulation keeps of its jobs, before tick t: the queue has those that are released before u, and the others are released at v or later
-pub record IsKeptAt (p : PolicyMeaning) (m : CutMeaning) (sheet : SheetParts) (t u v : ℕ) (run : Run) (left : List ℕ) (queue : BTreeMap Rank ℕ) (coming : BTreeSet Due) (inside : Option ℕ) : Type 0 where
+pub record IsKeptAt (p : PolicyMeaning) (m : CutMeaning) (sheet : SheetParts) (t u v : ℕ) (run : Run) (left : List ℕ)
+    (queue : BTreeMap Rank ℕ) (coming : BTreeSet Due) (inside : Option ℕ) : Type 0 where
   pub now : length run.ticks ≡ t
   pub known : (k : ℕ) → k < length run.jobs → IsKnown m sheet t (job_at run k)
   pub listed : (u k : ℕ) → u < t → tick_at run u ≡ Runs k → k < length run.jobs
@@ -140,7 +142,8 @@ pub record HasReleases (n : ℕ) (run : Run) (releases : List ℕ) : Type 0 wher
   pub each : (o : ℕ) → o < n → slice_index_or releases o 0 ≡ last_release o run.jobs
 
 -- what the simulation keeps before tick t
-pub record IsKeptBy (p : PolicyMeaning) (m : CutMeaning) (sheet : SheetParts) (t u v : ℕ) (run : Run) (left : List ℕ) (queue : BTreeMap Rank ℕ) (coming : BTreeSet Due) (inside : Option ℕ) (total : ℕ) (lists : List (Vec ℕ)) (lasts sums : List ℕ) : Type 0 where
+pub record IsKeptBy (p : PolicyMeaning) (m : CutMeaning) (sheet : SheetParts) (t u v : ℕ) (run : Run) (left : List ℕ)
+    (queue : BTreeMap Rank ℕ) (coming : BTreeSet Due) (inside : Option ℕ) (total : ℕ) (lists : List (Vec ℕ)) (lasts sums : List ℕ) : Type 0 where
   pub jobs : IsKeptAt p m sheet t u v run left queue coming inside
   pub segments : total ≡ segments_of run.jobs
   pub arrivals : HasArrivals (length sheet.tasks) run lists
@@ -149,7 +152,8 @@ pub record IsKeptBy (p : PolicyMeaning) (m : CutMeaning) (sheet : SheetParts) (t
 
 abbrev pub IsKeptUpTo : PolicyMeaning → CutMeaning → SheetParts → ℕ → ℕ → ℕ → Simulation → Type 0
 IsKeptUpTo p m sheet t u v simulation =
-    IsKeptBy p m sheet t u v (run_of simulation) simulation.left.items simulation.queue simulation.coming simulation.inside simulation.segments simulation.arrivals.items simulation.releases.items simulation.counts.items
+    IsKeptBy p m sheet t u v (run_of simulation) simulation.left.items simulation.queue simulation.coming simulation.inside
+    simulation.segments simulation.arrivals.items simulation.releases.items simulation.counts.items
 
 -- before the jobs that are released at t are let in
 abbrev pub IsKept : PolicyMeaning → CutMeaning → SheetParts → ℕ → Simulation → Type 0

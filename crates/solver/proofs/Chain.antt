@@ -54,7 +54,8 @@ module _ (p : PolicyMeaning) (m : CutMeaning) (sbf : ℕ → ℕ) (sheet : Sheet
     | inr f ↦ chain n (suc from) last (q ∷ qs) (omega arith) (omega arith) (λ o l. same o l ∙ not_point from f o l) (rw f at offsets) meet
   ]
 
-chain_first : (p : PolicyMeaning) (m : CutMeaning) (sbf : ℕ → ℕ) (sheet : SheetParts) (i window bound : ℕ) (qs : List Point) → 1 ≤ window → map (λ q. q.offset) qs ≡ points_below p sheet i window →
+chain_first : (p : PolicyMeaning) (m : CutMeaning) (sbf : ℕ → ℕ) (sheet : SheetParts) (i window bound : ℕ) (qs : List Point) →
+    1 ≤ window → map (λ q. q.offset) qs ≡ points_below p sheet i window →
     AllByRecursion (MeetsBoth p m sbf sheet i window bound) qs → PointsMeet p m sbf sheet i window bound None (pairs_of qs)
 unfolding points_below
 chain_first p m sbf sheet i zero bound qs one offsets meet = absurd (omega arith)
@@ -80,5 +81,6 @@ module _ (p : PolicyMeaning) (m : CutMeaning) (sbf : ℕ → ℕ) (sheet : Sheet
     covers = best.bound.holds.covers;
     window = best.window.holds;
     in_time = tt;
-    points = chain_first p m sbf sheet i e.window e.bound e.points best.window.holds.positive best.offsets (holds_each e.bound e.window e.points best.ends best.bound.holds.each);
+    points = chain_first p m sbf sheet i e.window e.bound e.points best.window.holds.positive best.offsets
+        (holds_each e.bound e.window e.points best.ends best.bound.holds.each);
   }

@@ -1,5 +1,6 @@
 -- The function gives an answer.
-use Rattle.std.proofs.Common.{◌≡◌, ℕ, zero, suc, ◌+◌, ◌-◌, ◌<◌, ◌≤◌, Bool, Option, Some, None, List, [], ◌∷◌, map, length, Result, Ok, Err, refl, ap, add-one, arith, inl, inr, nat_le}
+use Rattle.std.proofs.Common.{◌≡◌, ℕ, zero, suc, ◌+◌, ◌-◌, ◌<◌, ◌≤◌, Bool, Option, Some, None, List, [], ◌∷◌, map, length, Result, Ok, Err, refl, ap}
+use Rattle.std.proofs.Common.{add-one, arith, inl, inr, nat_le}
 use Rattle.std.specs.List.{AllByRecursion}
 use Rattle.std.proofs.lemmas.Bool.{cases_Bool, leb-true, leb-false}
 use Rattle.std.proofs.lemmas.List.{length-map}
@@ -50,7 +51,8 @@ module _ (end : ℕ → ℕ) where
 
 module _ (p : PolicyMeaning) (m : CutMeaning) (sbf : ℕ → ℕ) (sheet : SheetParts) (laws : Laws p m sbf sheet) where
   -- the entry of the function is the best one
-  best_entry_found : (i window : ℕ) → i < length sheet.tasks → IsLeast (IsWindow p m sbf sheet i) window → IsBestEntry p m sbf sheet i (best_of_window p m sbf sheet i window)
+  best_entry_found : (i window : ℕ) → i < length sheet.tasks → IsLeast (IsWindow p m sbf sheet i) window →
+      IsBestEntry p m sbf sheet i (best_of_window p m sbf sheet i window)
   unfolding best_of_window best_points
   best_entry_found i window in_range least =
       let up_to : window ≤ window = omega arith in
@@ -59,8 +61,11 @@ module _ (p : PolicyMeaning) (m : CutMeaning) (sbf : ℕ → ℕ) (sheet : Sheet
       let lie = points_lie_below p sheet i window in
       let points = map (λ a. point_of a (end a)) (points_below p sheet i window) in
       let ends : AllByRecursion (λ q. IsLeast (MeetsEnd p m sbf sheet i q.offset) q.end) points =
-      each_offset end (λ a x. IsLeast (MeetsEnd p m sbf sheet i a) x) window (λ a lt. found_least (MeetsEnd p m sbf sheet i a) window window _ (end_found p m sbf sheet i a window) up_to (window_ends p m sbf sheet laws i in_range window a least.holds lt)) (points_below p sheet i window) lie in
-      let below : AllByRecursion (λ q. q.offset < window) points = each_offset end (λ a x. a < window) window (λ a lt. lt) (points_below p sheet i window) lie in
+      each_offset end (λ a x. IsLeast (MeetsEnd p m sbf sheet i a) x) window
+      (λ a lt. found_least (MeetsEnd p m sbf sheet i a) window window _ (end_found p m sbf sheet i a window) up_to
+      (window_ends p m sbf sheet laws i in_range window a least.holds lt)) (points_below p sheet i window) lie in
+      let below : AllByRecursion (λ q. q.offset < window) points = each_offset end (λ a x. a < window) window (λ a lt. lt)
+      (points_below p sheet i window) lie in
       let each : MeetsEach p m sbf sheet i points limit = window_each p m sbf sheet laws i in_range window points least.holds ends below in
       record {
         window = least;
@@ -82,12 +87,14 @@ module _ (p : PolicyMeaning) (m : CutMeaning) (sbf : ℕ → ℕ) (sheet : Sheet
     IsOutcome n (Err (Points i)) = HasManyPoints p m sbf sheet horizon i
     IsOutcome n (Err Memory) = ⊥
 
-    bounded_next : (i room : ℕ) (entries : List Entry) (e : Entry) → i < length sheet.tasks → EntriesSoFar p m sbf sheet horizon i room entries → IsBestEntry p m sbf sheet i e → e.window ≤ horizon →
+    bounded_next : (i room : ℕ) (entries : List Entry) (e : Entry) → i < length sheet.tasks →
+        EntriesSoFar p m sbf sheet horizon i room entries → IsBestEntry p m sbf sheet i e → e.window ≤ horizon →
         points_to entries i + length (points_below p sheet i e.window) ≤ most_points → IsOutcome (suc i) (bounded_entry horizon i entries e)
     bounded_next i room entries e l so_far best within few = elim (cases_Bool (nat_le e.bound horizon)) [
       | inl t ↦ rw t (
         room - length (points_below p sheet i e.window),
-        rw (add-one i) at (entries_more p m sbf sheet horizon i room (length (points_below p sheet i e.window)) entries e so_far (record { window = within; bound = leb-true _ _ t; best = best }) refl (omega (arith, so_far.room_left))),
+        rw (add-one i) at (entries_more p m sbf sheet horizon i room (length (points_below p sheet i e.window)) entries e so_far
+            (record { window = within; bound = leb-true _ _ t; best = best }) refl (omega (arith, so_far.room_left))),
       )
       | inr f ↦ rw f (record {
         entries = entries;
@@ -104,23 +111,25 @@ module _ (p : PolicyMeaning) (m : CutMeaning) (sbf : ℕ → ℕ) (sheet : Sheet
         IsLeastTo (IsWindow p m sbf sheet i) horizon found →
         IsOutcome (suc i) (with_entry p m sbf sheet horizon i entries found)
     entry_next i room entries l so_far None none = record { before = (entries, have_entries p m sbf sheet horizon i room entries l so_far); none = none }
-    entry_next i room entries l so_far (Some window) found = elim (cases_Bool (nat_le (points_to entries i + length (points_below p sheet i window)) most_points)) [
-      | inl t ↦
-          let same = its_window i window in
-          rw t
-          (bounded_next i room entries (best_of_window p m sbf sheet i window) l so_far (best_entry_found i window l found.1) (omega (arith, same, found.0))
-          (omega (arith, leb-true _ _ t, ap (λ (w : ℕ). length (points_below p sheet i w)) same)))
-      | inr f ↦ rw f (record {
-        entries = entries;
-        before = have_entries p m sbf sheet horizon i room entries l so_far;
-        window = window;
-        within = found.0;
-        least = found.1;
-        many = leb-false _ _ f;
-      })
-    ]
+    entry_next i room entries l so_far (Some window) found =
+        elim (cases_Bool (nat_le (points_to entries i + length (points_below p sheet i window)) most_points)) [
+          | inl t ↦
+              let same = its_window i window in
+              rw t
+              (bounded_next i room entries (best_of_window p m sbf sheet i window) l so_far (best_entry_found i window l found.1) (omega (arith, same, found.0))
+              (omega (arith, leb-true _ _ t, ap (λ (w : ℕ). length (points_below p sheet i w)) same)))
+          | inr f ↦ rw f (record {
+            entries = entries;
+            before = have_entries p m sbf sheet horizon i room entries l so_far;
+            window = window;
+            within = found.0;
+            least = found.1;
+            many = leb-false _ _ f;
+          })
+        ]
 
-    outcome_next : (i : ℕ) → i < length sheet.tasks → (r : Result (List Entry) AnalyseRefusal) → IsOutcome i r → IsOutcome (suc i) (next_entries p m sbf sheet horizon i r)
+    outcome_next : (i : ℕ) → i < length sheet.tasks → (r : Result (List Entry) AnalyseRefusal) → IsOutcome i r →
+        IsOutcome (suc i) (next_entries p m sbf sheet horizon i r)
     outcome_next i l (Ok entries) so_far = entry_next i so_far.0 entries l so_far.1 _ (window_found p m sbf sheet i horizon)
     outcome_next i l (Err (NoBound k part)) h = h
     outcome_next i l (Err (Points k)) h = h

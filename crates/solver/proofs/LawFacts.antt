@@ -10,7 +10,8 @@ use Rattle.search_space.specs.PointLaws.{AcrossGap}
 use Rattle.solver.specs.Laws.{Laws}
 
 -- demand and points keep their laws, and the supply does not fall
-pub laws_hold : (p : PolicyMeaning) (m : CutMeaning) (sbf : ℕ → ℕ) (sheet : SheetParts) → NeedFits p m → DemandGrows p m → NeedFalls p m → AcrossGap p → IsValidSheet sheet → Serves m sheet →
+pub laws_hold : (p : PolicyMeaning) (m : CutMeaning) (sbf : ℕ → ℕ) (sheet : SheetParts) → NeedFits p m → DemandGrows p m →
+    NeedFalls p m → AcrossGap p → IsValidSheet sheet → Serves m sheet →
     ((d : ℕ) → sbf d ≤ sbf (d + 1)) → Laws p m sbf sheet
 laws_hold p m sbf sheet fits grow fall gap valid served rises = record {
   valid = valid;

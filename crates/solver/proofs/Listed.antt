@@ -1,4 +1,5 @@
-use Rattle.std.proofs.Common.{◌≡◌, ℕ, zero, suc, ◌+◌, ◌-◌, ◌<◌, ◌≤◌, List, [], ◌∷◌, ◌++◌, length, ap, sym, ◌∙◌, subst, refl, add-one, arith, inl, inr, length-append}
+use Rattle.std.proofs.Common.{◌≡◌, ℕ, zero, suc, ◌+◌, ◌-◌, ◌<◌, ◌≤◌, List, [], ◌∷◌, ◌++◌, length, ap, sym, ◌∙◌, subst, refl, add-one, arith, inl, inr}
+use Rattle.std.proofs.Common.{length-append}
 use Rattle.std.proofs.lemmas.Bool.{cases_lt}
 use Rattle.std.proofs.lemmas.List.{length-map}
 use Rattle.std.proofs.Math.ListN.{get_or-append}
@@ -28,7 +29,8 @@ entry_last entries e = get_or-append_seam entries e [] _
 -- the points of the entries before the last
 pub points_before : (entries : List Entry) (e : Entry) (n : ℕ) → n ≤ length entries → points_to (entries ++ e ∷ []) n ≡ points_to entries n
 points_before entries e zero l = refl
-points_before entries e (suc n) l = omega (arith, points_before entries e n (omega arith), ap (λ (x : Entry). length x.points) (entry_before entries e n (omega arith)))
+points_before entries e (suc n) l =
+    omega (arith, points_before entries e n (omega arith), ap (λ (x : Entry). length x.points) (entry_before entries e n (omega arith)))
 
 -- an entry has no more points than all up to it
 pub points_one : (entries : List Entry) (n i : ℕ) → i < n → length (nth_entry entries i).points ≤ points_to entries n
@@ -44,7 +46,8 @@ module _ (p : PolicyMeaning) (m : CutMeaning) (sbf : ℕ → ℕ) (sheet : Sheet
   pub entries_none : EntriesSoFar p m sbf sheet horizon 0 most_points []
   entries_none = record { count = refl; best = λ i l. absurd (omega arith); room_left = refl }
 
-  pub entries_more : (i room count : ℕ) (entries : List Entry) (e : Entry) → EntriesSoFar p m sbf sheet horizon i room entries → IsBestUpTo p m sbf sheet horizon i e →
+  pub entries_more : (i room count : ℕ) (entries : List Entry) (e : Entry) → EntriesSoFar p m sbf sheet horizon i room entries →
+      IsBestUpTo p m sbf sheet horizon i e →
       count ≡ length (points_below p sheet i e.window) → count ≤ room → EntriesSoFar p m sbf sheet horizon (i + 1) (room - count) (entries ++ e ∷ [])
   entries_more i room count entries e so_far best counted le =
       let own : length e.points ≡ count = omega (arith, counted, ap length best.best.offsets, length-map e.points (λ (q : Point). q.offset)) in
@@ -69,13 +72,22 @@ module _ (p : PolicyMeaning) (m : CutMeaning) (sbf : ℕ → ℕ) (sheet : Sheet
             ));
       }
 
-  pub entries_counted : (i room count : ℕ) (entries : List Entry) (e : Entry) → EntriesSoFar p m sbf sheet horizon i room entries → IsBestUpTo p m sbf sheet horizon i e →
+  pub entries_counted : (i room count : ℕ) (entries : List Entry) (e : Entry) →
+      EntriesSoFar p m sbf sheet horizon i room entries → IsBestUpTo p m sbf sheet horizon i e →
       count ≡ length e.points → count ≤ room → EntriesSoFar p m sbf sheet horizon (i + 1) (room - count) (entries ++ e ∷ [])
   entries_counted i room count entries e so_far best counted le =
       entries_more i room count entries e so_far best (omega (arith, counted, ap length best.best.offsets, length-map e.points (λ (q : Point). q.offset))) le
 
-  pub have_entries : (i room : ℕ) (entries : List Entry) → i < length sheet.tasks → EntriesSoFar p m sbf sheet horizon i room entries → HaveEntries p m sbf sheet horizon i entries
+  pub have_entries : (i room : ℕ) (entries : List Entry) → i < length sheet.tasks →
+      EntriesSoFar p m sbf sheet horizon i room entries → HaveEntries p m sbf sheet horizon i entries
   have_entries i room entries l so_far = record { task = l; count = so_far.count; best = so_far.best; few = omega (arith, so_far.room_left) }
 
-  pub all_entries : (n room : ℕ) (entries : List Entry) → n ≡ length sheet.tasks → EntriesSoFar p m sbf sheet horizon n room entries → IsBest p m sbf sheet horizon (record { version = One; entries = entries })
-  all_entries n room entries e so_far = record { version = refl; count = omega (arith, e, so_far.count); best = so_far.best; few = omega (arith, so_far.room_left, ap (points_to entries) e) }
+  pub all_entries : (n room : ℕ) (entries : List Entry) → n ≡ length sheet.tasks →
+      EntriesSoFar p m sbf sheet horizon n room entries → IsBest p m sbf sheet horizon (record { version = One; entries = entries })
+  all_entries n room entries e so_far = record {
+    version = refl;
+    count = omega (arith, e, so_far.count);
+    best = so_far.best;
+    few =
+        omega (arith, so_far.room_left, ap (points_to entries) e);
+  }

@@ -1,4 +1,5 @@
-use Rattle.std.proofs.Common.{◌≡◌, ℕ, zero, suc, ◌+◌, ◌-◌, ◌<◌, ◌≤◌, Bool, true, false, Some, None, Option, List, [], ◌∷◌, ◌++◌, length, map, refl, ap, sym, ◌∙◌, arith, add-suc, add-zero, append_assoc, length-append, max}
+use Rattle.std.proofs.Common.{◌≡◌, ℕ, zero, suc, ◌+◌, ◌-◌, ◌<◌, ◌≤◌, Bool, true, false, Some, None, Option, List, [], ◌∷◌, ◌++◌, length, map, refl}
+use Rattle.std.proofs.Common.{ap, sym, ◌∙◌, arith, add-suc, add-zero, append_assoc, length-append, max}
 use Rattle.std.specs.List.{AllByRecursion}
 use Rattle.std.proofs.lemmas.Bool.{false_from_ne_true}
 use Rattle.std.proofs.lemmas.List.{map-append, length-map}
@@ -62,11 +63,13 @@ module _ (p : PolicyMeaning) (sheet : SheetParts) (i window : ℕ) where
 
   pub from_next : (a next : ℕ) → IsNextPoint p sheet i a window (Some next) → points_from p sheet i window a ≡ a ∷ points_from p sheet i window next
   unfolding points_from
-  from_next a next n = ap (λ xs. a ∷ xs) (passing_next (is_point p sheet i) (suc a) next window (omega (arith, n.1.later)) n.0 n.1.point (λ k l b. no_point p sheet i a k (omega arith) (n.2 k b)))
+  from_next a next n = ap (λ xs. a ∷ xs)
+      (passing_next (is_point p sheet i) (suc a) next window (omega (arith, n.1.later)) n.0 n.1.point (λ k l b. no_point p sheet i a k (omega arith) (n.2 k b)))
 
   pub from_last : (a : ℕ) → IsNextPoint p sheet i a window None → points_from p sheet i window a ≡ a ∷ []
   unfolding points_from
-  from_last a n = ap (λ xs. a ∷ xs) (passing_none (is_point p sheet i) (window - suc a) (suc a) (λ k l b. no_point p sheet i a k (omega arith) (n k (omega arith))))
+  from_last a n = ap (λ xs. a ∷ xs)
+      (passing_none (is_point p sheet i) (window - suc a) (suc a) (λ k l b. no_point p sheet i a k (omega arith) (n k (omega arith))))
 
   pub from_some : (a : ℕ) → 1 ≤ length (points_from p sheet i window a)
   unfolding points_from
@@ -103,7 +106,9 @@ module _ (p : PolicyMeaning) (m : CutMeaning) (sbf : ℕ → ℕ) (sheet : Sheet
   bound_more points a x bound least so_far here = record {
     holds = record {
       covers = omega (arith, here.holds.covers);
-      each = each_push _ points (point_of a x) (each_weaker _ _ points (λ q meets. bound_grow q.offset q.end bound (max least bound) (omega arith) meets) so_far.holds.each) (bound_grow a x least (max least bound) (omega arith) here.holds.within);
+      each = each_push _ points (point_of a x)
+          (each_weaker _ _ points (λ q meets. bound_grow q.offset q.end bound (max least bound) (omega arith) meets)
+          so_far.holds.each) (bound_grow a x least (max least bound) (omega arith) here.holds.within);
     };
     least = λ k h.
         let parts = each_split _ points (point_of a x) h.each in
@@ -111,28 +116,64 @@ module _ (p : PolicyMeaning) (m : CutMeaning) (sbf : ℕ → ℕ) (sheet : Sheet
   }
 
   pub so_far_first : (window bound : ℕ) → 1 ≤ window → bound ≡ (task_at sheet i).jitter → SoFar p m sbf sheet i window 0 bound []
-  so_far_first window bound one e = record { lies = one; offsets = from_first p sheet i window one; ends = tt; least = record { holds = record { covers = omega (arith, e); each = tt }; least = λ k h. omega (arith, e, h.covers) } }
+  so_far_first window bound one e = record {
+    lies = one;
+    offsets = from_first p sheet i window one;
+    ends = tt;
+    least =
+        record { holds = record { covers = omega (arith, e); each = tt }; least = λ k h. omega (arith, e, h.covers) };
+  }
 
-  module _ (window a bound : ℕ) (points : List Point) (so_far : SoFar p m sbf sheet i window a bound points) (x least : ℕ) (end : IsLeast (MeetsEnd p m sbf sheet i a) x) (here : IsLeast (BoundMeets p m sbf sheet i a x) least) where
-    offsets_more : (next : ℕ) → IsNextPoint p sheet i a window (Some next) → map (λ q. q.offset) (points ++ point_of a x ∷ []) ++ points_from p sheet i window next ≡ points_below p sheet i window
+  module _ (window a bound : ℕ) (points : List Point) (so_far : SoFar p m sbf sheet i window a bound points) (x least : ℕ)
+      (end : IsLeast (MeetsEnd p m sbf sheet i a) x) (here : IsLeast (BoundMeets p m sbf sheet i a x) least) where
+    offsets_more : (next : ℕ) → IsNextPoint p sheet i a window (Some next) →
+        map (λ q. q.offset) (points ++ point_of a x ∷ []) ++ points_from p sheet i window next ≡ points_below p sheet i window
     offsets_more next n =
-        rw (map-append (λ (q : Point). q.offset) points (point_of a x ∷ []), append_assoc (map (λ (q : Point). q.offset) points) (a ∷ []) (points_from p sheet i window next)) (rw (from_next p sheet i window a next n) at so_far.offsets)
+        rw (
+          map-append (λ (q : Point). q.offset) points (point_of a x ∷ []),
+          append_assoc (map (λ (q : Point). q.offset) points)
+              (a ∷ []) (points_from p sheet i window next),
+        ) (rw (from_next p sheet i window a next n) at so_far.offsets)
 
     offsets_last : IsNextPoint p sheet i a window None → map (λ q. q.offset) (points ++ point_of a x ∷ []) ≡ points_below p sheet i window
     offsets_last n = rw (map-append (λ (q : Point). q.offset) points (point_of a x ∷ [])) (rw (from_last p sheet i window a n) at so_far.offsets)
 
-    pub so_far_more : (next : ℕ) → IsNextPoint p sheet i a window (Some next) → SoFar p m sbf sheet i window next (max least bound) (points ++ point_of a x ∷ [])
-    so_far_more next n = record { lies = n.0; offsets = offsets_more next n; ends = each_push _ points (point_of a x) so_far.ends end; least = bound_more points a x bound least so_far.least here }
+    pub so_far_more : (next : ℕ) → IsNextPoint p sheet i a window (Some next) →
+        SoFar p m sbf sheet i window next (max least bound) (points ++ point_of a x ∷ [])
+    so_far_more next n = record {
+      lies = n.0;
+      offsets = offsets_more next n;
+      ends =
+          each_push _ points (point_of a x) so_far.ends end;
+      least = bound_more points a x bound least so_far.least here;
+    }
 
-    pub so_far_last : IsLeast (IsWindow p m sbf sheet i) window → IsNextPoint p sheet i a window None → IsBestEntry p m sbf sheet i (record { window = window; bound = max least bound; points = points ++ point_of a x ∷ []; terms = [] })
-    so_far_last w n = record { window = w; offsets = offsets_last n; ends = each_push _ points (point_of a x) so_far.ends end; bound = bound_more points a x bound least so_far.least here; plain = refl }
+    pub so_far_last : IsLeast (IsWindow p m sbf sheet i) window → IsNextPoint p sheet i a window None →
+        IsBestEntry p m sbf sheet i (record { window = window; bound = max least bound; points = points ++ point_of a x ∷ []; terms = [] })
+    so_far_last w n = record {
+      window = w;
+      offsets = offsets_last n;
+      ends =
+          each_push _ points (point_of a x) so_far.ends end;
+      bound = bound_more points a x bound least so_far.least here;
+      plain = refl;
+    }
 
 -- while one is still to be listed, there are more points than are listed
-pub so_far_many : (p : PolicyMeaning) (m : CutMeaning) (sbf : ℕ → ℕ) (sheet : SheetParts) (i window a bound : ℕ) (points : List Point) → SoFar p m sbf sheet i window a bound points →
+pub so_far_many : (p : PolicyMeaning) (m : CutMeaning) (sbf : ℕ → ℕ) (sheet : SheetParts) (i window a bound : ℕ)
+    (points : List Point) → SoFar p m sbf sheet i window a bound points →
     length points < length (points_below p sheet i window)
 so_far_many p m sbf sheet i window a bound points so_far =
     let offsets = map (λ (q : Point). q.offset) points in
-    omega (arith, ap length so_far.offsets, length-append offsets (points_from p sheet i window a), length-map points (λ (q : Point). q.offset), from_some p sheet i window a)
+    omega (
+      arith,
+      ap length so_far.offsets,
+      length-append offsets (points_from p sheet i window a),
+      length-map points (λ (q : Point). q.offset),
+      from_some p sheet i window a,
+    )
 
-pub points_some : (p : PolicyMeaning) (sheet : SheetParts) (i window : ℕ) (points : List Point) → 1 ≤ window → map (λ q. q.offset) points ≡ points_below p sheet i window → 1 ≤ length points
-points_some p sheet i window points one e = omega (arith, ap length e, length-map points (λ (q : Point). q.offset), ap length (from_first p sheet i window one), from_some p sheet i window 0)
+pub points_some : (p : PolicyMeaning) (sheet : SheetParts) (i window : ℕ) (points : List Point) → 1 ≤ window →
+    map (λ q. q.offset) points ≡ points_below p sheet i window → 1 ≤ length points
+points_some p sheet i window points one e =
+    omega (arith, ap length e, length-map points (λ (q : Point). q.offset), ap length (from_first p sheet i window one), from_some p sheet i window 0)

@@ -18,7 +18,8 @@ use Rattle.preemption.specs.CutMeaning.{CutMeaning}
 use Rattle.demand.specs.Demand.{capped_count, own_of, others_of, blocking_of, need_of}
 
 -- a cap that grows admits no fewer
-capped_more : (curve : Curve) → IsCurve curve → (jitter x : ℕ) (from at : Cap) → GrowsTo from at → capped_count curve jitter from x ≤ capped_count curve jitter at x
+capped_more : (curve : Curve) → IsCurve curve → (jitter x : ℕ) (from at : Cap) → GrowsTo from at →
+    capped_count curve jitter from x ≤ capped_count curve jitter at x
 capped_more curve ok jitter x Nothing Nothing h = omega arith
 capped_more curve ok jitter x All All h = omega arith
 capped_more curve ok jitter x (At c) (At d) h =
@@ -35,7 +36,8 @@ masked_le : (b : Bool) (m n : ℕ) → (b ≡ false → m ≤ n) → cond b 0 m 
 masked_le true m n h = omega arith
 masked_le false m n h = h refl
 
-module _ (p : PolicyMeaning) (m : CutMeaning) (sheet : SheetParts) (ok : IsValidSheet sheet) (lawful : IsLawfulPolicy p sheet) (i : ℕ) (in_range : i < length sheet.tasks) where
+module _ (p : PolicyMeaning) (m : CutMeaning) (sheet : SheetParts) (ok : IsValidSheet sheet) (lawful : IsLawfulPolicy p sheet)
+    (i : ℕ) (in_range : i < length sheet.tasks) where
   others_rise : (from a x : ℕ) → from ≤ a → others_of p sheet i from x ≤ others_of p sheet i a x
   unfolding others_of
   others_rise from a x h = sum_le _ _ (length sheet.tasks) (λ o b. masked_le (o == i) _ _ (λ f.

@@ -53,7 +53,8 @@ module _ (p : PolicyMeaning) (m : CutMeaning) (sbf : ℕ → ℕ) (sheet : Sheet
   same_points i (q ∷ qs) (r ∷ rs) e a b =
       let offset : q.offset ≡ r.offset = cc in
       let rest : map (λ s. s.offset) qs ≡ map (λ s. s.offset) rs = cc in
-      let end : q.end ≡ r.end = same_least (MeetsEnd p m sbf sheet i q.offset) q.end r.end a.0 (subst (λ k. IsLeast (MeetsEnd p m sbf sheet i k) r.end) (sym offset) b.0) in
+      let end : q.end ≡ r.end = same_least (MeetsEnd p m sbf sheet i q.offset) q.end r.end a.0
+      (subst (λ k. IsLeast (MeetsEnd p m sbf sheet i k) r.end) (sym offset) b.0) in
       let first : q ≡ r = point_same q.offset r.offset q.end r.end offset end in
       let others : qs ≡ rs = same_points i qs rs rest a.1 b.1 in
       cc
@@ -63,7 +64,8 @@ module _ (p : PolicyMeaning) (m : CutMeaning) (sbf : ℕ → ℕ) (sheet : Sheet
   same_entry i e f a b =
       let window : e.window ≡ f.window = same_least _ _ _ a.window b.window in
       let points : e.points ≡ f.points = same_points i e.points f.points (a.offsets ∙ ap (points_below p sheet i) window ∙ sym b.offsets) a.ends b.ends in
-      let bound : e.bound ≡ f.bound = same_least (MeetsEach p m sbf sheet i e.points) e.bound f.bound a.bound (subst (λ qs. IsLeast (MeetsEach p m sbf sheet i qs) f.bound) (sym points) b.bound) in
+      let bound : e.bound ≡ f.bound = same_least (MeetsEach p m sbf sheet i e.points) e.bound f.bound a.bound
+      (subst (λ qs. IsLeast (MeetsEach p m sbf sheet i qs) f.bound) (sym points) b.bound) in
       entry_same e.window f.window e.bound f.bound e.points f.points e.terms f.terms window bound points (a.plain ∙ sym b.plain)
 
 points_rise : (entries : List Entry) (n m : ℕ) → n ≤ m → points_to entries n ≤ points_to entries m
@@ -74,15 +76,18 @@ points_rise entries n (suc m) le = elim (cases_lt m n) [
 ]
 
 module _ (p : PolicyMeaning) (m : CutMeaning) (sbf : ℕ → ℕ) (sheet : SheetParts) (horizon : ℕ) where
-  same_nth : (es fs : List Entry) (k : ℕ) → AreBest p m sbf sheet horizon es → AreBest p m sbf sheet horizon fs → k < length es → k < length fs → nth_entry es k ≡ nth_entry fs k
+  same_nth : (es fs : List Entry) (k : ℕ) → AreBest p m sbf sheet horizon es → AreBest p m sbf sheet horizon fs → k < length es →
+      k < length fs → nth_entry es k ≡ nth_entry fs k
   same_nth es fs k a b l r = same_entry p m sbf sheet k (nth_entry es k) (nth_entry fs k) (a k l).best (b k r).best
 
   same_entries : (es fs : List Entry) → AreBest p m sbf sheet horizon es → AreBest p m sbf sheet horizon fs → length es ≡ length fs → es ≡ fs
   same_entries es fs a b e = ext_get_or no_entry es fs e (λ k l. same_nth es fs k a b l (omega (arith, e)))
 
-  same_count : (es fs : List Entry) (n : ℕ) → AreBest p m sbf sheet horizon es → AreBest p m sbf sheet horizon fs → n ≤ length es → n ≤ length fs → points_to es n ≡ points_to fs n
+  same_count : (es fs : List Entry) (n : ℕ) → AreBest p m sbf sheet horizon es → AreBest p m sbf sheet horizon fs →
+      n ≤ length es → n ≤ length fs → points_to es n ≡ points_to fs n
   same_count es fs zero a b l r = refl
-  same_count es fs (suc n) a b l r = omega (arith, same_count es fs n a b (omega arith) (omega arith), ap (λ (e : Entry). length e.points) (same_nth es fs n a b (omega arith) (omega arith)))
+  same_count es fs (suc n) a b l r =
+      omega (arith, same_count es fs n a b (omega arith) (omega arith), ap (λ (e : Entry). length e.points) (same_nth es fs n a b (omega arith) (omega arith)))
 
   -- the best entries of the first i tasks, with no more points than are allowed
   record HaveFirst (i : ℕ) (entries : List Entry) : Type 0 where
@@ -120,8 +125,16 @@ module _ (p : PolicyMeaning) (m : CutMeaning) (sbf : ℕ → ℕ) (sheet : Sheet
       let own = have.best i (omega (arith, have.count)) in
       let e : Entry = nth_entry entries i in
       let window : e.window ≡ h.window = same_least _ _ _ own.best.window h.least in
-      let points : length e.points ≡ length (points_below p sheet i h.window) = omega (arith, ap length own.best.offsets, length-map e.points (λ (q : Point). q.offset), ap (λ (w : ℕ). length (points_below p sheet i w)) window) in
-      omega (arith, points, h.many, have.few, points_rise entries (suc i) j lt, same_count entries h.entries i have.best h.before.best (omega (arith, have.count)) (omega (arith, h.before.count)))
+      let points : length e.points ≡ length (points_below p sheet i h.window) =
+      omega (arith, ap length own.best.offsets, length-map e.points (λ (q : Point). q.offset), ap (λ (w : ℕ). length (points_below p sheet i w)) window) in
+      omega (
+        arith,
+        points,
+        h.many,
+        have.few,
+        points_rise entries (suc i) j lt,
+        same_count entries h.entries i have.best h.before.best (omega (arith, have.count)) (omega (arith, h.before.count)),
+      )
 
   -- the tasks before one that has no bound have their entries
   firsts : (i : ℕ) (part : Part) → HasNoBound p m sbf sheet horizon i part → (entries : List Entry) × HaveEntries p m sbf sheet horizon i entries
@@ -154,7 +167,8 @@ module _ (p : PolicyMeaning) (m : CutMeaning) (sbf : ℕ → ℕ) (sheet : Sheet
   same_part i Bound Window a b = absurd (window_or_not i b a)
   same_part i Bound Bound a b = refl
 
-  no_bound_same : (i j : ℕ) (a_part b_part : Part) → HasNoBound p m sbf sheet horizon i a_part → HasNoBound p m sbf sheet horizon j b_part → refused_by i a_part ≡ refused_by j b_part
+  no_bound_same : (i j : ℕ) (a_part b_part : Part) → HasNoBound p m sbf sheet horizon i a_part →
+      HasNoBound p m sbf sheet horizon j b_part → refused_by i a_part ≡ refused_by j b_part
   no_bound_same i j a_part b_part a b =
       let e : i ≡ j = no_bound_place i j a_part b_part a b in
       let part : a_part ≡ b_part = same_part i a_part b_part a (subst (λ k. HasNoBound p m sbf sheet horizon k b_part) (sym e) b) in
@@ -165,8 +179,21 @@ module _ (p : PolicyMeaning) (m : CutMeaning) (sbf : ℕ → ℕ) (sheet : Sheet
   many_or_not i Window a b = a.none b.window b.within b.least.holds
   many_or_not i Bound a b =
       let window : a.entry.window ≡ b.window = same_least _ _ _ a.best.window b.least in
-      let points : length a.entry.points ≡ length (points_below p sheet i b.window) = omega (arith, ap length a.best.offsets, length-map a.entry.points (λ (q : Point). q.offset), ap (λ (w : ℕ). length (points_below p sheet i w)) window) in
-      omega (arith, points, a.few, b.many, same_count a.entries b.entries i a.before.best b.before.best (omega (arith, a.before.count)) (omega (arith, b.before.count)))
+      let points : length a.entry.points ≡ length (points_below p sheet i b.window) =
+      omega (
+        arith,
+        ap length a.best.offsets,
+        length-map a.entry.points (λ (q : Point). q.offset),
+        ap (λ (w : ℕ). length (points_below p sheet i w)) window,
+      ) in
+      omega (
+        arith,
+        points,
+        a.few,
+        b.many,
+        same_count a.entries b.entries i a.before.best b.before.best
+            (omega (arith, a.before.count)) (omega (arith, b.before.count)),
+      )
 
   one_cause : (i j : ℕ) (part : Part) → HasNoBound p m sbf sheet horizon i part → HasManyPoints p m sbf sheet horizon j → ⊥
   one_cause i j part a b =
@@ -181,7 +208,8 @@ module _ (p : PolicyMeaning) (m : CutMeaning) (sbf : ℕ → ℕ) (sheet : Sheet
   best_has_few cert i a b = many_stops i b (length sheet.tasks) cert.entries (first_of_best cert a) b.before.task
 
   same_best : (c d : Cert) → IsBest p m sbf sheet horizon c → IsBest p m sbf sheet horizon d → c ≡ d
-  same_best c d a b = cert_same c.version d.version c.entries d.entries (a.version ∙ sym b.version) (same_entries c.entries d.entries a.best b.best (omega (arith, a.count, b.count)))
+  same_best c d a b = cert_same c.version d.version c.entries d.entries (a.version ∙ sym b.version)
+      (same_entries c.entries d.entries a.best b.best (omega (arith, a.count, b.count)))
 
   pub answers_same : (r s : Result Cert AnalyseRefusal) → IsAnswer p m sbf sheet horizon r → IsAnswer p m sbf sheet horizon s → r ≡ s
   answers_same (Ok c) (Ok d) a b = ap (λ (x : Cert). Ok x) (same_best c d a b)

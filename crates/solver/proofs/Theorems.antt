@@ -28,7 +28,12 @@ use Rattle.solver.proofs.Single.{answers_same}
 module _ (p : PolicyMeaning) (m : CutMeaning) (sbf : ℕ → ℕ) (sheet : SheetParts) (horizon : ℕ) where
   pub best_meets : (cert : Cert) → IsBest p m sbf sheet horizon cert → failed_of p m sbf sheet false cert ≡ None
   best_meets cert best =
-      cert_none p m sbf sheet false cert (record { count = best.count; tasks = λ i l. let own = best.best i (omega (arith, best.count)) in entry_meets p m sbf sheet i (entry_at cert i) own.best })
+      cert_none p m sbf sheet false cert
+      (record {
+        count = best.count;
+        tasks = λ i l. let own =
+            best.best i (omega (arith, best.count)) in entry_meets p m sbf sheet i (entry_at cert i) own.best;
+      })
 
   has_points : (cert : Cert) (i : ℕ) → i < length cert.entries → HavePoints cert → 1 ≤ length (entry_at cert i).points
   has_points cert i l have = All-get_or (λ e. 1 ≤ length e.points) cert.entries i no_entry l have
@@ -49,13 +54,15 @@ module _ (p : PolicyMeaning) (m : CutMeaning) (sbf : ℕ → ℕ) (sheet : Sheet
   no_window_none : (i : ℕ) → HasNoWindow p m sbf sheet horizon i → NoneMeets p m sbf sheet horizon Window
   no_window_none i has other have up_to none =
       let meets = cert_means p m sbf sheet false other none in
-      has.none (entry_at other i).window (entry_up_to_of other i (omega (arith, meets.count, has.before.1.task)) up_to).window (meets.tasks i has.before.1.task).window
+      has.none (entry_at other i).window (entry_up_to_of other i (omega (arith, meets.count, has.before.1.task)) up_to).window
+      (meets.tasks i has.before.1.task).window
 
   late_none : Laws p m sbf sheet → (i : ℕ) → HasLateBound p m sbf sheet horizon i → NoneMeets p m sbf sheet horizon Bound
   late_none laws i has other have up_to none =
       let meets = cert_means p m sbf sheet false other none in
       let l : i < length other.entries = omega (arith, meets.count, has.before.task) in
-      let least = bound_least p m sbf sheet laws i has.before.task has.entry (entry_at other i) false has.best (has_points other i l have) (meets.tasks i has.before.task) in
+      let least = bound_least p m sbf sheet laws i has.before.task has.entry (entry_at other i) false has.best
+      (has_points other i l have) (meets.tasks i has.before.task) in
       omega (arith, least, has.late, (entry_up_to_of other i l up_to).bound)
 
   pub none_where : Laws p m sbf sheet → (r : AnalyseRefusal) → HasCause p m sbf sheet horizon r → NoneWhereNoBound p m sbf sheet horizon r
@@ -65,9 +72,11 @@ module _ (p : PolicyMeaning) (m : CutMeaning) (sbf : ℕ → ℕ) (sheet : Sheet
   none_where laws Memory h = tt
 
   -- the best certificate and each refusal with its cause are the function's answer
-  pub best_answer : Laws p m sbf sheet → (r : Result Cert AnalyseRefusal) → IfOk r (IsBest p m sbf sheet horizon) → IfErr r (HasCause p m sbf sheet horizon) → IsBestAnswer p m sbf sheet horizon r
+  pub best_answer : Laws p m sbf sheet → (r : Result Cert AnalyseRefusal) → IfOk r (IsBest p m sbf sheet horizon) →
+      IfErr r (HasCause p m sbf sheet horizon) → IsBestAnswer p m sbf sheet horizon r
   best_answer laws (Ok cert) best cause = answers_same p m sbf sheet horizon _ (Ok cert) (answer_found p m sbf sheet laws horizon) best
-  best_answer laws (Err (NoBound i part)) best cause = answers_same p m sbf sheet horizon _ (Err (NoBound i part)) (answer_found p m sbf sheet laws horizon) cause
+  best_answer laws (Err (NoBound i part)) best cause = answers_same p m sbf sheet horizon _ (Err (NoBound i part))
+      (answer_found p m sbf sheet laws horizon) cause
   best_answer laws (Err (Points i)) best cause = answers_same p m sbf sheet horizon _ (Err (Points i)) (answer_found p m sbf sheet laws horizon) cause
   best_answer laws (Err Memory) best cause = tt
 
@@ -82,7 +91,8 @@ module _ (p : PolicyMeaning) (m : CutMeaning) (sbf : ℕ → ℕ) (sheet : Sheet
         record {
           window = own.window;
           bound = own.bound;
-          points = All-from_recursion _ e.points (each_within p m sbf sheet laws i task e.window horizon e.points own.window own.best.window.holds own.best.ends below);
+          points = All-from_recursion _ e.points
+              (each_within p m sbf sheet laws i task e.window horizon e.points own.window own.best.window.holds own.best.ends below);
         }
 
     pub best_up_to : IsUpTo horizon cert
@@ -96,7 +106,8 @@ module _ (p : PolicyMeaning) (m : CutMeaning) (sbf : ℕ → ℕ) (sheet : Sheet
         let small = entry_up_to i l in
         let meets = entry_meets p m sbf sheet i e own.best in
         let below = below_each p m sbf sheet laws i task e.window e.bound None e.points meets.points in
-        let each = each_within p m sbf sheet laws i task e.window greatest_number e.points (omega (arith, own.window)) own.best.window.holds own.best.ends below in
+        let each = each_within p m sbf sheet laws i task e.window greatest_number e.points
+        (omega (arith, own.window)) own.best.window.holds own.best.ends below in
         record {
           window = omega (arith, small.window);
           bound = omega (arith, small.bound);

@@ -1,6 +1,7 @@
 -- A search finds the one least number.
 use Rattle.std.specs.List.{AllByRecursion}
-use Rattle.std.proofs.Common.{◌≡◌, ℕ, zero, suc, ◌+◌, ◌<◌, ◌≤◌, Bool, true, cond, Option, Some, None, List, [], ◌∷◌, ◌++◌, length, Ok, refl, ap, ◌∙◌, arith, inl, inr}
+use Rattle.std.proofs.Common.{◌≡◌, ℕ, zero, suc, ◌+◌, ◌<◌, ◌≤◌, Bool, true, cond, Option, Some, None, List, [], ◌∷◌, ◌++◌, length, Ok, refl, ap, ◌∙◌}
+use Rattle.std.proofs.Common.{arith, inl, inr}
 use Rattle.std.proofs.lemmas.Bool.{both_ways, cases_lt, cases_Bool, and_parts, and_from, leb-true, le-leb}
 use Rattle.lists.specs.Limits.{most_points}
 use Rattle.lists.specs.Firsts.{first_of}
@@ -64,14 +65,16 @@ module _ (p : PolicyMeaning) (m : CutMeaning) (sbf : ℕ → ℕ) (sheet : Sheet
   pub end_found : (a limit : ℕ) → IsLeastTo (MeetsEnd p m sbf sheet i a) limit (least_to (meets_end p m sbf sheet i a) limit)
   end_found a limit = least_to_is (MeetsEnd p m sbf sheet i a) (meets_end p m sbf sheet i a) (end_means p m sbf sheet i a) (end_true p m sbf sheet i a) limit
 
-  each_means : (qs : List Point) (bound : ℕ) → meets_each p m sbf sheet i qs bound ≡ true → AllByRecursion (λ q. MeetsBound p m sbf sheet i q.offset q.end bound) qs
+  each_means : (qs : List Point) (bound : ℕ) → meets_each p m sbf sheet i qs bound ≡ true →
+      AllByRecursion (λ q. MeetsBound p m sbf sheet i q.offset q.end bound) qs
   each_means [] bound h = tt
   each_means (q ∷ qs) bound h =
       let parts = and_parts _ (meets_each p m sbf sheet i qs bound) h in
       let own = and_parts (ends_within sheet i q.offset q.end bound) (rest_within p m sbf sheet i q.offset q.end bound) parts.0 in
       (bound_means p m sbf sheet i q.offset q.end bound own.0 own.1, each_means qs bound parts.1)
 
-  each_true : (qs : List Point) (bound : ℕ) → AllByRecursion (λ q. MeetsBound p m sbf sheet i q.offset q.end bound) qs → meets_each p m sbf sheet i qs bound ≡ true
+  each_true : (qs : List Point) (bound : ℕ) → AllByRecursion (λ q. MeetsBound p m sbf sheet i q.offset q.end bound) qs →
+      meets_each p m sbf sheet i qs bound ≡ true
   each_true [] bound meets = refl
   each_true (q ∷ qs) bound meets = and_from _ _ (and_from _ _ (le-leb _ _ meets.0.end) (le-leb _ _ meets.0.enough)) (each_true qs bound meets.1)
 
@@ -81,7 +84,8 @@ module _ (p : PolicyMeaning) (m : CutMeaning) (sbf : ℕ → ℕ) (sheet : Sheet
       record { covers = leb-true _ _ parts.0; each = each_means qs bound parts.1 }
 
   all_true : (qs : List Point) (bound : ℕ) → MeetsEach p m sbf sheet i qs bound → meets_bound p m sbf sheet i qs bound ≡ true
-  all_true qs bound meets = and_from (covers_jitter sheet i bound) (meets_each p m sbf sheet i qs bound) (le-leb _ _ meets.covers) (each_true qs bound meets.each)
+  all_true qs bound meets = and_from (covers_jitter sheet i bound) (meets_each p m sbf sheet i qs bound) (le-leb _ _ meets.covers)
+      (each_true qs bound meets.each)
 
   pub bound_found : (qs : List Point) (limit : ℕ) → IsLeastTo (MeetsEach p m sbf sheet i qs) limit (least_to (meets_bound p m sbf sheet i qs) limit)
   bound_found qs limit = least_to_is (MeetsEach p m sbf sheet i qs) (meets_bound p m sbf sheet i qs) (all_mean qs) (all_true qs) limit
@@ -103,4 +107,5 @@ pub next_entry : (p : PolicyMeaning) (m : CutMeaning) (sbf : ℕ → ℕ) (sheet
     points_to entries i + length (points_below p sheet i window) ≤ most_points → (best_of_window p m sbf sheet i window).bound ≤ horizon →
     first_entries p m sbf sheet horizon (suc i) ≡ Ok (entries ++ best_of_window p m sbf sheet i window ∷ [])
 unfolding first_entries
-next_entry p m sbf sheet horizon i entries before window le least few within = rw (before, found_is (IsWindow p m sbf sheet i) horizon window _ (window_found p m sbf sheet i horizon) le least, le-leb _ _ few, le-leb _ _ within) refl
+next_entry p m sbf sheet horizon i entries before window le least few within =
+    rw (before, found_is (IsWindow p m sbf sheet i) horizon window _ (window_found p m sbf sheet i horizon) le least, le-leb _ _ few, le-leb _ _ within) refl

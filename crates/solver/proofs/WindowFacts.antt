@@ -25,7 +25,8 @@ module _ (p : PolicyMeaning) (m : CutMeaning) (sheet : SheetParts) (i j : ℕ) w
     unfolding window_need_of
     same_need e l = omega (arith, e, parts_same 0, parts_same l)
 
-  pub window_stays : (sbf : ℕ → ℕ) (horizon window : ℕ) → AskSame p m sheet i j → IsLeastTo (IsWindow p m sbf sheet i) horizon (Some window) → IsLeastTo (IsWindow p m sbf sheet j) horizon (Some window)
+  pub window_stays : (sbf : ℕ → ℕ) (horizon window : ℕ) → AskSame p m sheet i j →
+      IsLeastTo (IsWindow p m sbf sheet i) horizon (Some window) → IsLeastTo (IsWindow p m sbf sheet j) horizon (Some window)
   window_stays sbf horizon window same least = (
     least.0,
     record {

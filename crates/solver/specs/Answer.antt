@@ -20,8 +20,10 @@ IsAnswer p m sbf sheet horizon (Err Memory) = ⊥
 
 -- for every valid sheet and horizon the function gives an answer
 abbrev pub BestIsAnswer : PolicyMeaning → CutMeaning → (ℕ → ℕ) → Type 0
-BestIsAnswer p m sbf = (sheet : SheetParts) → IsValidSheet sheet → Serves m sheet → (horizon : ℕ) → IsAnswer p m sbf sheet horizon (best_of p m sbf sheet horizon)
+BestIsAnswer p m sbf = (sheet : SheetParts) → IsValidSheet sheet → Serves m sheet → (horizon : ℕ) →
+    IsAnswer p m sbf sheet horizon (best_of p m sbf sheet horizon)
 
 -- no sheet and horizon have two answers
 abbrev pub OneAnswer : PolicyMeaning → CutMeaning → (ℕ → ℕ) → Type 0
-OneAnswer p m sbf = (sheet : SheetParts) (horizon : ℕ) (r s : Result Cert AnalyseRefusal) → IsAnswer p m sbf sheet horizon r → IsAnswer p m sbf sheet horizon s → r ≡ s
+OneAnswer p m sbf = (sheet : SheetParts) (horizon : ℕ) (r s : Result Cert AnalyseRefusal) → IsAnswer p m sbf sheet horizon r →
+    IsAnswer p m sbf sheet horizon s → r ≡ s

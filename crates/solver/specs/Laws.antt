@@ -16,7 +16,8 @@ pub record Laws (p : PolicyMeaning) (m : CutMeaning) (sbf : ℕ → ℕ) (sheet 
   -- what a job needs and the rest of it fit into the demand of its class
   pub need_fits : (i a l : ℕ) → i < length sheet.tasks → a < l → need_of p m sheet i a l + rest_of m sheet i ≤ window_need_of p m sheet i l
   -- at an offset from which no number tells a later one apart, as much is needed as at each between them
-  pub across_gap : (i from to a x : ℕ) → i < length sheet.tasks → from ≤ a → a < to → IsSame p sheet i from (to - 1) → need_of p m sheet i a x ≤ need_of p m sheet i from x
+  pub across_gap : (i from to a x : ℕ) → i < length sheet.tasks → from ≤ a → a < to → IsSame p sheet i from (to - 1) →
+      need_of p m sheet i a x ≤ need_of p m sheet i from x
 
 -- from an offset to a later one at which as much blocks the need does not fall
 abbrev pub NeedRises : PolicyMeaning → CutMeaning → Type 0

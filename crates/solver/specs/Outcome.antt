@@ -55,7 +55,8 @@ bounded_entry horizon i entries e = cond (nat_le e.bound horizon) (Ok (entries +
 abbrev pub with_entry : PolicyMeaning → CutMeaning → (ℕ → ℕ) → SheetParts → ℕ → ℕ → List Entry → Option ℕ → Result (List Entry) AnalyseRefusal
 with_entry p m sbf sheet horizon i entries None = Err (NoBound i Window)
 with_entry p m sbf sheet horizon i entries (Some window) =
-    cond (nat_le (points_to entries i + length (points_below p sheet i window)) most_points) (bounded_entry horizon i entries (best_of_window p m sbf sheet i window)) (Err (Points i))
+    cond (nat_le (points_to entries i + length (points_below p sheet i window)) most_points)
+    (bounded_entry horizon i entries (best_of_window p m sbf sheet i window)) (Err (Points i))
 
 abbrev pub next_entries : PolicyMeaning → CutMeaning → (ℕ → ℕ) → SheetParts → ℕ → ℕ → Result (List Entry) AnalyseRefusal → Result (List Entry) AnalyseRefusal
 next_entries p m sbf sheet horizon i (Err e) = Err e

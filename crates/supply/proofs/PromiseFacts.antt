@@ -1,4 +1,5 @@
-use Rattle.std.proofs.Common.{◌≡◌, ℕ, zero, suc, ◌+◌, ◌-◌, ◌*◌, ◌/◌, ◌%◌, ◌<◌, ◌≤◌, ◌≢◌, true, List, [], ◌∷◌, length, get_or, refl, ap, subst, inl, inr, arith, add-one}
+use Rattle.std.proofs.Common.{◌≡◌, ℕ, zero, suc, ◌+◌, ◌-◌, ◌*◌, ◌/◌, ◌%◌, ◌<◌, ◌≤◌, ◌≢◌, true, List, [], ◌∷◌, length, get_or, refl, ap, subst, inl}
+use Rattle.std.proofs.Common.{inr, arith, add-one}
 use Rattle.std.proofs.lemmas.Bool.{cases_lt}
 use Rattle.std.proofs.lemmas.Nat.{div-mul-add, div-add-mod'}
 use Rattle.std.proofs.Math.Nat.{mul-le-mul_left}
@@ -44,12 +45,21 @@ pub times_sorted : (times : List ℕ) → rise_above 0 times ≡ true → IsNonD
 times_sorted times rise = IsNonDecreasingBy-from_default (λ t. t) times 0 (λ i j h l. times_rise times 0 i j rise h l)
 
 -- where the first n times are at most r, and no other, n are
-pub count_split : (times : List ℕ) (r n : ℕ) → n ≤ length times → ((k : ℕ) → k < n → get_or times k 0 ≤ r) → ((k : ℕ) → n ≤ k → k < length times → r < get_or times k 0) → count_of times r ≡ n
+pub count_split : (times : List ℕ) (r n : ℕ) → n ≤ length times → ((k : ℕ) → k < n → get_or times k 0 ≤ r) →
+    ((k : ℕ) → n ≤ k → k < length times → r < get_or times k 0) → count_of times r ≡ n
 count_split [] r n within early late = omega (arith, within)
 count_split (t ∷ times) r zero within early late =
-    omega (arith, test_fails t r (late 0 (omega arith) (omega arith)), count_split times r 0 (omega arith) (λ k h. absurd (omega (arith, h))) (λ k h l. late (suc k) (omega arith) (omega (arith, l))))
+    omega (
+      arith,
+      test_fails t r (late 0 (omega arith) (omega arith)),
+      count_split times r 0 (omega arith) (λ k h. absurd (omega (arith, h))) (λ k h l. late (suc k) (omega arith) (omega (arith, l))),
+    )
 count_split (t ∷ times) r (suc n) within early late =
-    omega (arith, test_holds t r (early 0 (omega arith)), count_split times r n (omega (arith, within)) (λ k h. early (suc k) (omega (arith, h))) (λ k h l. late (suc k) (omega (arith, h)) (omega (arith, l))))
+    omega (
+      arith,
+      test_holds t r (early 0 (omega arith)),
+      count_split times r n (omega (arith, within)) (λ k h. early (suc k) (omega (arith, h))) (λ k h l. late (suc k) (omega (arith, h)) (omega (arith, l))),
+    )
 
 -- the time with number r is the one at which the count becomes r + 1
 pub count_there : (times : List ℕ) (low r : ℕ) → rise_above low times ≡ true → r < length times → count_of times (get_or times r 0) ≡ r + 1
@@ -109,11 +119,20 @@ module _ (horizon : ℕ) (times : List ℕ) (f : Facts horizon times) where
             let ends : get_or times r 0 ≡ horizon = omega (arith, within, f.last) in
             let all = count_all times 0 horizon f.rise f.last in
             let next : q * horizon + get_or times r 0 ≡ (q + 1) * horizon + 0 = omega (arith, ends) in
-            omega (arith, ap (promised horizon times) next, promised_parts (q + 1) 0 f.positive, count_none times 0 0 f.rise (omega arith), all, there, ap (count_of times) ends)
+            omega (
+              arith,
+              ap (promised horizon times) next,
+              promised_parts (q + 1) 0 f.positive,
+              count_none times 0 0 f.rise (omega arith),
+              all,
+              there,
+              ap (count_of times) ends,
+            )
       ]
 
   -- the first window with a tick more than w: some whole horizons, and a time
-  pub least_is : (w : ℕ) → (q r : ℕ) → w ≡ q * length times + r → r < length times → IsLeast (λ d. w + 1 ≤ promised horizon times d) (q * horizon + get_or times r 0)
+  pub least_is : (w : ℕ) → (q r : ℕ) → w ≡ q * length times + r → r < length times →
+      IsLeast (λ d. w + 1 ≤ promised horizon times d) (q * horizon + get_or times r 0)
   least_is w q r e h =
       let first = later_time times 0 r f.rise h in
       let within = time_within times 0 r f.rise h in
@@ -121,7 +140,15 @@ module _ (horizon : ℕ) (times : List ℕ) (f : Facts horizon times) where
         holds = omega (arith, promised_at q r h, e);
         least = λ k enough. elim (cases_lt k (q * horizon + get_or times r 0)) [
           | inr c ↦ c
-          | inl c ↦ absurd (omega (arith, enough, e, promised_mono k (q * horizon + (get_or times r 0 - 1)) (omega (arith, first)), promised_parts q (get_or times r 0 - 1) (omega (arith, first, within, f.last)), count_before times 0 r f.rise h))
+          | inl c ↦ absurd (omega (
+            arith,
+            enough,
+            e,
+            promised_mono k (q * horizon + (get_or times r 0 - 1))
+                (omega (arith, first)),
+            promised_parts q (get_or times r 0 - 1) (omega (arith, first, within, f.last)),
+            count_before times 0 r f.rise h,
+          ))
         ];
       }
 
@@ -144,7 +171,8 @@ reached horizon times v h some =
     }
 
 -- all times come in each whole horizon
-pub promised_counts : (horizon : ℕ) (times : List ℕ) (d : ℕ) → IsPromise (Promised horizon times) → (d / horizon) * length times + count_of times (d % horizon) ≡ promised horizon times d
+pub promised_counts : (horizon : ℕ) (times : List ℕ) (d : ℕ) → IsPromise (Promised horizon times) →
+    (d / horizon) * length times + count_of times (d % horizon) ≡ promised horizon times d
 unfolding promised
 promised_counts horizon times d h =
     let f = facts_of (record { horizon = horizon; times = times }) h in
@@ -152,4 +180,5 @@ promised_counts horizon times d h =
 
 -- no product or sum of a window's supply is above the window
 pub product_le : (horizon : ℕ) (times : List ℕ) (d : ℕ) → IsPromise (Promised horizon times) → (d / horizon) * length times + count_of times (d % horizon) ≤ d
-product_le horizon times d h = omega (arith, promised_counts horizon times d h, promised_le horizon times (facts_of (record { horizon = horizon; times = times }) h) d)
+product_le horizon times d h =
+    omega (arith, promised_counts horizon times d h, promised_le horizon times (facts_of (record { horizon = horizon; times = times }) h) d)

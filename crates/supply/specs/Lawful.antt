@@ -108,8 +108,10 @@ module _ (horizon : ℕ) (times : List ℕ) (f : Facts horizon times) where
         let q = ap (λ (w : ℕ). w * count_of times horizon) s.0 in
         let r = ap (count_of times) s.1 in
         let z = count_none times 0 0 f.rise (omega arith) in
-        let top = ap (count_of times) s.2 in
-        (omega (arith, q, r, z, top, count_mono times (d % horizon) horizon (omega (arith, s.2))), omega (arith, q, r, z, top, count_step times 0 (d % horizon) f.rise))
+        let top = ap (count_of times) s.2 in (
+          omega (arith, q, r, z, top, count_mono times (d % horizon) horizon (omega (arith, s.2))),
+          omega (arith, q, r, z, top, count_step times 0 (d % horizon) f.rise),
+        )
   ]
 
 -- a promise begins with 0 and grows by at most 1 a tick

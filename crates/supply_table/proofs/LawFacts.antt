@@ -18,7 +18,14 @@ on_kept table p run follows t zero h = omega (arith, count_none (is_supplied tab
 on_kept table p run follows t (suc d) h =
     let at : t + d + p ≡ t + p + d = omega arith in
     let kept = cond_le (is_supplied table (t + d + p)) (is_on (tick_at run (t + d))) (follows (t + d) (omega arith)) in
-    omega (arith, on_kept table p run follows t d (omega arith), count_more (is_supplied table) (t + p) d, ticks_in_more is_on run t d (omega arith), kept, ap (λ (w : ℕ). cond {A = ℕ} (is_supplied table w) 1 0) at)
+    omega (
+      arith,
+      on_kept table p run follows t d (omega arith),
+      count_more (is_supplied table) (t + p) d,
+      ticks_in_more is_on run t d (omega arith),
+      kept,
+      ap (λ (w : ℕ). cond {A = ℕ} (is_supplied table w) 1 0) at,
+    )
 
 pub supplies : TableSupplies
 supplies table p run ok follows t u order within =

@@ -56,11 +56,13 @@ module _ (table : TableParts) (ok : IsTable table) where
       let high = cycle_high table ok in
       let grows = floor_grows table ok in
       let times = rises_are (floor_of table) table.cycle high in
-      let count : length (times_of table) ≡ supplied_sum table.slots = length_rises (floor_of table) grows table.cycle ∙ floor_cycle table ok ∙ supplied_is table ok in
+      let count : length (times_of table) ≡ supplied_sum table.slots = length_rises (floor_of table) grows table.cycle ∙
+      floor_cycle table ok ∙ supplied_is table ok in
       let some = supplied_low table.slots ok.slots in
       let few = supplied_high table.slots ok.slots in (
         low,
         omega (arith, high),
-        and_from _ _ (and_from _ _ (le-leb 1 (length (times_of table)) (omega (arith, count, some))) (le-leb (length (times_of table)) 1000 (omega (arith, count, few)))) times.fit,
+        and_from _ _ (and_from _ _ (le-leb 1 (length (times_of table)) (omega (arith, count, some)))
+            (le-leb (length (times_of table)) 1000 (omega (arith, count, few)))) times.fit,
         and_from _ _ times.rise (le-leb _ _ times.last),
       )

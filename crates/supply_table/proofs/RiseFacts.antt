@@ -1,4 +1,5 @@
-use Rattle.std.proofs.Common.{◌≡◌, ℕ, zero, suc, ◌+◌, ◌-◌, ◌*◌, ◌/◌, ◌%◌, ◌<◌, ◌≤◌, ◌&&◌, Bool, true, false, cond, leb, ltb, List, [], ◌∷◌, ◌++◌, length, refl, sym, ◌∙◌, ap, subst, inl, inr, arith, add-one}
+use Rattle.std.proofs.Common.{◌≡◌, ℕ, zero, suc, ◌+◌, ◌-◌, ◌*◌, ◌/◌, ◌%◌, ◌<◌, ◌≤◌, ◌&&◌, Bool, true, false, cond, leb, ltb, List, [], ◌∷◌, ◌++◌}
+use Rattle.std.proofs.Common.{length, refl, sym, ◌∙◌, ap, subst, inl, inr, arith, add-one}
 use Rattle.std.specs.List.{list_all}
 use Rattle.std.proofs.lemmas.Bool.{cases_lt, and_parts, and_from, lt-ltb, le-ltb, le-leb, ltb-true}
 use Rattle.std.proofs.lemmas.Bool.Decides.{nat_tests}
@@ -54,7 +55,8 @@ count_one x r = omega arith
 pub count_all : (f : ℕ → ℕ) → Grows f → (n r : ℕ) → n ≤ r → count_of (rises_to f n) r ≡ f n
 count_all f g zero r h = omega (arith, g.begins)
 count_all f g (suc n) r h = elim (cases_lt (f n) (f (suc n))) [
-  | inl c ↦ rw (rise_here f n c) (omega (arith, count_append (rises_to f n) (suc n ∷ []) r, count_one (suc n) r, test_holds (suc n) r h, count_all f g n r (omega arith), (g.step n).1, c))
+  | inl c ↦ rw (rise_here f n c)
+      (omega (arith, count_append (rises_to f n) (suc n ∷ []) r, count_one (suc n) r, test_holds (suc n) r h, count_all f g n r (omega arith), (g.step n).1, c))
   | inr c ↦ rw (none_here f n c) (omega (arith, count_all f g n r (omega arith), (g.step n).0, c))
 ]
 
@@ -64,7 +66,8 @@ count_rises f g zero r h = let e : r ≡ 0 = omega arith in omega (arith, ap f e
 count_rises f g (suc n) r h = elim (cases_lt r (suc n)) [
   | inr c ↦ let e : suc n ≡ r = omega arith in omega (arith, count_all f g (suc n) r (omega arith), ap f e)
   | inl b ↦ elim (cases_lt (f n) (f (suc n))) [
-    | inl c ↦ rw (rise_here f n c) (omega (arith, count_append (rises_to f n) (suc n ∷ []) r, count_one (suc n) r, test_fails (suc n) r b, count_rises f g n r (omega arith)))
+    | inl c ↦ rw (rise_here f n c)
+        (omega (arith, count_append (rises_to f n) (suc n ∷ []) r, count_one (suc n) r, test_fails (suc n) r b, count_rises f g n r (omega arith)))
     | inr c ↦ rw (none_here f n c) (count_rises f g n r (omega arith))
   ]
 ]

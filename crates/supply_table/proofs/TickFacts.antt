@@ -1,4 +1,5 @@
-use Rattle.std.proofs.Common.{◌≡◌, ℕ, zero, suc, ◌+◌, ◌-◌, ◌*◌, ◌%◌, ◌<◌, ◌≤◌, ◌&&◌, ◌||◌, Bool, true, false, cond, leb, ltb, List, [], ◌∷◌, ◌++◌, length, get_or, refl, sym, ◌∙◌, ap, subst, arith, add-zero, add-suc, inl, inr}
+use Rattle.std.proofs.Common.{◌≡◌, ℕ, zero, suc, ◌+◌, ◌-◌, ◌*◌, ◌%◌, ◌<◌, ◌≤◌, ◌&&◌, ◌||◌, Bool, true, false, cond, leb, ltb, List, [], ◌∷◌, ◌++◌}
+use Rattle.std.proofs.Common.{length, get_or, refl, sym, ◌∙◌, ap, subst, arith, add-zero, add-suc, inl, inr}
 use Rattle.std.specs.List.{list_any, flat_map}
 use Rattle.std.proofs.lemmas.Bool.{cases_lt, cases_Bool, and_parts, and_from, and_left, and_right, lt-leb, le-leb, lt-ltb, le-ltb, leb-true, or_from}
 use Rattle.std.proofs.lemmas.List.{append-nil, append_assoc, length-append, get_or_append_left, get_or_push}
@@ -38,7 +39,8 @@ length_passing test (suc n) =
     let more = count_more test 0 n in
     let here = ap (λ (w : ℕ). cond {A = ℕ} (test w) 1 0) at in
     elim (cases_Bool (test n)) [
-      | inl t ↦ rw (more_passes test n t) (omega (arith, length-append (passing_below test n) (n ∷ []), length_passing test n, more, here, ap (λ (b : Bool). cond {A = ℕ} b 1 0) t))
+      | inl t ↦ rw (more_passes test n t)
+          (omega (arith, length-append (passing_below test n) (n ∷ []), length_passing test n, more, here, ap (λ (b : Bool). cond {A = ℕ} b 1 0) t))
       | inr f ↦ rw (more_fails test n f) (omega (arith, length_passing test n, more, here, ap (λ (b : Bool). cond {A = ℕ} b 1 0) f))
     ]
 
@@ -68,7 +70,14 @@ nth test (suc n) j h = elim (cases_Bool (test n)) [
 pub nth_before : (test : ℕ → Bool) (j v t : ℕ) → IsNth test j v → v < t → j < count_in test 0 t
 nth_before test j v t is h =
     let at : 0 + v ≡ v = omega arith in
-    omega (arith, is.before, count_mono test 0 (suc v) t (omega arith), count_more test 0 v, ap (λ (w : ℕ). cond {A = ℕ} (test w) 1 0) at, ap (λ (b : Bool). cond {A = ℕ} b 1 0) is.passes)
+    omega (
+      arith,
+      is.before,
+      count_mono test 0 (suc v) t (omega arith),
+      count_more test 0 v,
+      ap (λ (w : ℕ). cond {A = ℕ} (test w) 1 0) at,
+      ap (λ (b : Bool). cond {A = ℕ} b 1 0) is.passes,
+    )
 
 pub nth_after : (test : ℕ → Bool) (j v t : ℕ) → IsNth test j v → j < count_in test 0 t → v < t
 nth_after test j v t is h = elim (cases_lt v t) [
@@ -145,7 +154,8 @@ supplied_at table q t h = ap (λ (w : ℕ). list_any (is_in_slot w) table.slots)
 
 -- the supplied ticks of a cycle, behind those before it
 cycle_of : (table : TableParts) (q : ℕ) → IsTable table →
-    passing_below (is_supplied table) (q * table.cycle + table.cycle) ≡ passing_below (is_supplied table) (q * table.cycle) ++ flat_map (slot_ticks (q * table.cycle)) table.slots
+    passing_below (is_supplied table) (q * table.cycle + table.cycle) ≡ passing_below (is_supplied table)
+    (q * table.cycle) ++ flat_map (slot_ticks (q * table.cycle)) table.slots
 cycle_of table q ok =
     let at : q * table.cycle + 0 ≡ q * table.cycle = omega arith in
     cycle_ticks (is_supplied table) (q * table.cycle) table.cycle 0 table.slots ok.order (λ t a b. supplied_at table q t b)
@@ -175,8 +185,18 @@ length_numbers from (suc n) = omega (arith, length-append (numbers_from from n) 
 
 length_slots : (begin : ℕ) (slots : List Slot) → length (flat_map (slot_ticks begin) slots) ≡ supplied_sum slots
 length_slots begin [] = refl
-length_slots begin (s ∷ slots) = omega (arith, length-append (slot_ticks begin s) (flat_map (slot_ticks begin) slots), length_numbers (begin + s.start) s.length, length_slots begin slots)
+length_slots begin (s ∷ slots) = omega (
+  arith,
+  length-append (slot_ticks begin s) (flat_map (slot_ticks begin) slots),
+  length_numbers (begin + s.start) s.length,
+  length_slots begin slots,
+)
 
 -- the ticks that a table supplies in a cycle are those of its slots
 pub supplied_is : (table : TableParts) → IsTable table → on_of table 0 table.cycle ≡ supplied_sum table.slots
-supplied_is table ok = omega (arith, length_passing (is_supplied table) table.cycle, ap (λ (xs : List ℕ). length xs) (first_cycle table ok), length_slots 0 table.slots)
+supplied_is table ok = omega (
+  arith,
+  length_passing (is_supplied table) table.cycle,
+  ap (λ (xs : List ℕ). length xs) (first_cycle table ok),
+  length_slots 0 table.slots,
+)

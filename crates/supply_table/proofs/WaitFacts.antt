@@ -61,7 +61,12 @@ module _ (table : TableParts) (ok : IsTable table) where
   round_split : (p : ℕ) → on_of table 0 (p + table.cycle) ≡ on_of table 0 p + once_of table
   round_split p =
       let at : 0 + p ≡ p = omega arith in
-      omega (arith, count_split (is_supplied table) 0 p table.cycle, ap (λ (w : ℕ). on_of table w table.cycle) at, count_cycle (is_supplied table) table.cycle (supplied_round table) p)
+      omega (
+        arith,
+        count_split (is_supplied table) 0 p table.cycle,
+        ap (λ (w : ℕ). on_of table w table.cycle) at,
+        count_cycle (is_supplied table) table.cycle (supplied_round table) p,
+      )
 
   pub length_ticks : length (ticks_of table) ≡ once_of table + once_of table
   length_ticks = omega (arith, length_passing (is_supplied table) (table.cycle + table.cycle), round_split table.cycle)
@@ -91,7 +96,13 @@ module _ (table : TableParts) (ok : IsTable table) where
       let later = tick (i + n) (omega (arith, top)) in
       let v = get_or (ticks_of table) i 0 in
       let past = nth_after (is_supplied table) i v p here (omega (arith, front)) in
-      omega (arith, nth_before (is_supplied table) (i + n) (get_or (ticks_of table) (i + n) 0) (p + d) later (omega (arith, wait, past)), window_split p d, front)
+      omega (
+        arith,
+        nth_before (is_supplied table) (i + n) (get_or (ticks_of table) (i + n) 0) (p + d) later
+            (omega (arith, wait, past)),
+        window_split p d,
+        front,
+      )
 
   wait_low : (n d : ℕ) → 1 ≤ n → n ≤ once_of table → max_below (wait_of (ticks_of table) n) (once_of table) ≤ d → n ≤ floor_of table d
   wait_low n d low top waits =
@@ -107,7 +118,8 @@ module _ (table : TableParts) (ok : IsTable table) where
         | inr none ↦
             let i = once_of table - 1 in
             let wait = max_at_least (wait_of (ticks_of table) n) (once_of table) i (omega (arith, low, top)) in
-            let next = wait_from n d (p + table.cycle) i top (omega (arith, low, top)) (omega (arith, wait, waits)) (omega (arith, round_split p, none, low, top)) in
+            let next = wait_from n d (p + table.cycle) i top (omega (arith, low, top)) (omega (arith, wait, waits))
+            (omega (arith, round_split p, none, low, top)) in
             omega (arith, at.is, next, count_round (is_supplied table) table.cycle (supplied_round table) p d)
       ]
 
@@ -115,7 +127,8 @@ module _ (table : TableParts) (ok : IsTable table) where
   pub times_listed : times_of table ≡ listed (λ n. max_below (wait_of (ticks_of table) n) (once_of table)) (once_of table)
   times_listed =
       let whole = floor_cycle table ok in
-      rises_listed (floor_of table) (λ n. max_below (wait_of (ticks_of table) n) (once_of table)) (once_of table) table.cycle (floor_grows table ok) (omega (arith, whole)) (λ n low top. record {
+      rises_listed (floor_of table) (λ n. max_below (wait_of (ticks_of table) n) (once_of table)) (once_of table) table.cycle
+      (floor_grows table ok) (omega (arith, whole)) (λ n low top. record {
         soon = λ d enough. max_bound (wait_of (ticks_of table) n) (once_of table) d (λ i b. wait_high n d i top enough b);
         there = λ d waits. wait_low n d low top waits;
       })

@@ -1,4 +1,5 @@
-use Rattle.std.proofs.Common.{◌≡◌, ◌≢◌, ℕ, zero, suc, ◌+◌, ◌*◌, ◌<◌, ◌≤◌, ◌||◌, Bool, true, false, not, refl, sym, ◌∙◌, List, [], ◌∷◌, ◌++◌, length, get_or, sum, arith, Result, Ok, Err}
+use Rattle.std.proofs.Common.{◌≡◌, ◌≢◌, ℕ, zero, suc, ◌+◌, ◌*◌, ◌<◌, ◌≤◌, ◌||◌, Bool, true, false, not, refl, sym, ◌∙◌, List, [], ◌∷◌, ◌++◌, length}
+use Rattle.std.proofs.Common.{get_or, sum, arith, Result, Ok, Err}
 use Rattle.std.specs.Prelude.{bytes_eq}
 use Rattle.std.specs.List.{list_all, list_any}
 use Rattle.std.proofs.lemmas.Bool.{false_from_ne_true, leb-true, le-leb, eqb-true, eq-eqb, and_parts, and_from}
@@ -24,7 +25,8 @@ pub holds_means : (b : Bool) (e : SheetRefusal) → holds b e ≡ Ok tt → b �
 holds_means true e h = refl
 holds_means false e h = absurd (cc)
 
-pub both_hold : {B : Type 0} (r : Result (Unit {0}) SheetRefusal) (f : Unit {0} → Result B SheetRefusal) (y : B) → (r >>= f) ≡ Ok y → (r ≡ Ok tt) × (f tt ≡ Ok y)
+pub both_hold : {B : Type 0} (r : Result (Unit {0}) SheetRefusal) (f : Unit {0} → Result B SheetRefusal) (y : B) →
+    (r >>= f) ≡ Ok y → (r ≡ Ok tt) × (f tt ≡ Ok y)
 both_hold (Ok x) f y h = (refl, h)
 both_hold (Err e) f y h = absurd (cc)
 
@@ -154,7 +156,8 @@ pub or_parts : (a b : Bool) → (a || b) ≡ false → (a ≡ false) × (b ≡ f
 or_parts true b h = absurd (cc)
 or_parts false b h = (refl, h)
 
-fresh_before : (q name : List ℕ) (names : List (List ℕ)) → list_any (bytes_eq q) (names ++ name ∷ []) ≡ false → (list_any (bytes_eq q) names ≡ false) × (q ≢ name)
+fresh_before : (q name : List ℕ) (names : List (List ℕ)) → list_any (bytes_eq q) (names ++ name ∷ []) ≡ false →
+    (list_any (bytes_eq q) names ≡ false) × (q ≢ name)
 fresh_before q name names h =
     let parts = or_parts _ _ (sym (list_any-append (bytes_eq q) names (name ∷ [])) ∙ h) in
     (parts.0, not_from_Decides (bytes_eq q name) (bytes_eq-Decides q name) (or_parts _ _ parts.1).0)
@@ -164,11 +167,13 @@ fresh_after q name names h ne =
     let differ : bytes_eq q name ≡ false = false_from_ne_true (bytes_eq q name) (λ t. ne ((bytes_eq-Decides q name).0 t)) in
     list_any-append (bytes_eq q) names (name ∷ []) ∙ rw (h, differ) refl
 
-each_from : (names : List (List ℕ)) (t : Task) (ts : List Task) → IsTask t → TasksPass (names ++ t.name ∷ []) ts → (i : ℕ) → i < length (t ∷ ts) → IsTask (get_or (t ∷ ts) i no_task)
+each_from : (names : List (List ℕ)) (t : Task) (ts : List Task) → IsTask t → TasksPass (names ++ t.name ∷ []) ts → (i : ℕ) →
+    i < length (t ∷ ts) → IsTask (get_or (t ∷ ts) i no_task)
 each_from names t ts first rest zero l = first
 each_from names t ts first rest (suc i) l = rest.each i (omega arith)
 
-fresh_from : (names : List (List ℕ)) (t : Task) (ts : List Task) → list_any (bytes_eq t.name) names ≡ false → TasksPass (names ++ t.name ∷ []) ts → (i : ℕ) → i < length (t ∷ ts) →
+fresh_from : (names : List (List ℕ)) (t : Task) (ts : List Task) → list_any (bytes_eq t.name) names ≡ false →
+    TasksPass (names ++ t.name ∷ []) ts → (i : ℕ) → i < length (t ∷ ts) →
     list_any (bytes_eq (get_or (t ∷ ts) i no_task).name) names ≡ false
 fresh_from names t ts first rest zero l = first
 fresh_from names t ts first rest (suc i) l = (fresh_before _ t.name names (rest.fresh i (omega arith))).0
@@ -179,7 +184,8 @@ distinct_from names t ts rest i zero l m = absurd (omega arith)
 distinct_from names t ts rest zero (suc k) l m = λ e. (fresh_before _ t.name names (rest.fresh k (omega arith))).1 (sym e)
 distinct_from names t ts rest (suc i) (suc k) l m = rest.distinct i k (omega arith) (omega arith)
 
-pub tasks_mean : (n : ℕ) (names : List (List ℕ)) (ts : List Task) → ((i : ℕ) → i < length ts → IsCurve (get_or ts i no_task).curve) → tasks_rule n names ts ≡ Ok tt → TasksPass names ts
+pub tasks_mean : (n : ℕ) (names : List (List ℕ)) (ts : List Task) →
+    ((i : ℕ) → i < length ts → IsCurve (get_or ts i no_task).curve) → tasks_rule n names ts ≡ Ok tt → TasksPass names ts
 tasks_mean n names [] curves h = record {
   each = λ i l. absurd (omega arith);
   fresh = λ i l. absurd (omega arith);

@@ -14,7 +14,8 @@ jitter_high t is = omega (arith, is.jitter_high)
 pub point_low : (t : Task) → IsTask t → neg_ℤ (pos greatest_number) ≤ℤ t.point
 unfolding most_point
 point_low t is =
-    let low : int_le (neg_ℤ (pos most_point)) t.point ≡ true = (and_parts (int_le (neg_ℤ (pos most_point)) t.point) (int_le t.point (pos most_point)) is.point).0 in
+    let low : int_le (neg_ℤ (pos most_point)) t.point ≡ true =
+    (and_parts (int_le (neg_ℤ (pos most_point)) t.point) (int_le t.point (pos most_point)) is.point).0 in
     grind (arith, ints)
 
 pub point_high : (t : Task) → IsTask t → t.point ≤ℤ pos greatest_number

@@ -1,4 +1,5 @@
-use Rattle.std.specs.Prelude.{ℕ, ℤ, pos, neg_ℤ, ◌+◌, ◌==◌, ◌&&◌, Bool, true, not, List, [], ◌∷◌, ◌++◌, length, nat_le, nat_lt, int_le, sum, Result, Ok, bytes_eq}
+use Rattle.std.specs.Prelude.{ℕ, ℤ, pos, neg_ℤ, ◌+◌, ◌==◌, ◌&&◌, Bool, true, not, List, [], ◌∷◌, ◌++◌, length, nat_le, nat_lt, int_le, sum, Result}
+use Rattle.std.specs.Prelude.{Ok, bytes_eq}
 use Rattle.std.specs.List.{list_all, list_any}
 use Rattle.lists.specs.Limits.{greatest_number, most_parts, most_tasks}
 use Rattle.lists.specs.Ranges.{is_between}

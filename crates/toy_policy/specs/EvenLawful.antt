@@ -51,7 +51,8 @@ uncut_at_odd : (s cost : ℕ) → s % 2 ≡ 1 → s < cost → ((s % 2 == 0) || 
 uncut_at_odd s cost odd l = grind (arith, nat_tests)
 
 -- between the threshold and the end there is an odd service at most
-uncut_after : (task : Task) (j : Job) (s : ℕ) → j.cost ≤ task.cost → cond (task.cost % 2 == 0) (task.cost - 1) task.cost ≤ s → s < j.cost → ((s % 2 == 0) || leb j.cost s) ≡ false
+uncut_after : (task : Task) (j : Job) (s : ℕ) → j.cost ≤ task.cost → cond (task.cost % 2 == 0) (task.cost - 1) task.cost ≤ s →
+    s < j.cost → ((s % 2 == 0) || leb j.cost s) ≡ false
 uncut_after task j s high h l = elim (cases_Bool (task.cost % 2 == 0)) [
   | inl even ↦
       let past : task.cost - 1 ≤ s = subst (λ (b : Bool). cond b (task.cost - 1) task.cost ≤ s) even h in

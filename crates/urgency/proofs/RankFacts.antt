@@ -21,7 +21,8 @@ pub rank_total : IsTotalOrder rank_cmp
 rank_total =
     then_total (on_total (λ (r : Rank). r.high) int_cmp_total)
     (then_total (on_total (λ (r : Rank). r.low) int_cmp_total)
-    (then_total (on_total (λ (r : Rank). r.task) nat_cmp_total) (then_total (on_total (λ (r : Rank). r.arrival) nat_cmp_total) (on_total (λ (r : Rank). r.number) nat_cmp_total))))
+    (then_total (on_total (λ (r : Rank). r.task) nat_cmp_total)
+    (then_total (on_total (λ (r : Rank). r.arrival) nat_cmp_total) (on_total (λ (r : Rank). r.number) nat_cmp_total))))
 
 pub eq_tells : (o : Ordering) → is_eq o ≡ true → o ≡ Equal
 eq_tells Less h = absurd (cc)

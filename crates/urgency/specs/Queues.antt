@@ -43,4 +43,5 @@ pub record IsFirstEntry (queue : BTreeMap Rank ℕ) (k : ℕ) : Type 0 where
 abbrev pub IsMostUrgent : PolicyMeaning → SheetParts → List Job → (ℕ → Bool) → Option ℕ → Type 0
 IsMostUrgent p sheet jobs test None = (k : ℕ) → k < length jobs → test k ≡ false
 IsMostUrgent p sheet jobs test (Some f) =
-    (f < length jobs) × (test f ≡ true) × ((k : ℕ) → k < length jobs → test k ≡ true → is_gt (rank_cmp (rank_of p sheet jobs f) (rank_of p sheet jobs k)) ≡ false)
+    (f < length jobs) × (test f ≡ true) × ((k : ℕ) → k < length jobs → test k ≡ true →
+    is_gt (rank_cmp (rank_of p sheet jobs f) (rank_of p sheet jobs k)) ≡ false)

@@ -18,4 +18,5 @@ rank_of p sheet jobs k = rank_at p sheet (slice_index_or jobs k no_job) k
 
 -- the order of ranks: by the key, then by the task, the arrival and the number
 abbrev pub rank_cmp : Rank → Rank → Ordering
-rank_cmp a b = ordering_then (int_cmp a.high b.high) (ordering_then (int_cmp a.low b.low) (ordering_then (nat_cmp a.task b.task) (ordering_then (nat_cmp a.arrival b.arrival) (nat_cmp a.number b.number))))
+rank_cmp a b = ordering_then (int_cmp a.high b.high)
+    (ordering_then (int_cmp a.low b.low) (ordering_then (nat_cmp a.task b.task) (ordering_then (nat_cmp a.arrival b.arrival) (nat_cmp a.number b.number))))

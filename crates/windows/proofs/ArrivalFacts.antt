@@ -1,5 +1,6 @@
 -- How many arrivals of a list lie in a window.
-use Rattle.std.proofs.Common.{◌≡◌, ℕ, zero, suc, ◌+◌, ◌-◌, ◌<◌, ◌≤◌, ◌⊎◌, ◌&&◌, Bool, true, false, cond, List, [], ◌∷◌, ◌++◌, length, get_or, take, count_by, refl, ap, inl, inr, arith, leb, ltb}
+use Rattle.std.proofs.Common.{◌≡◌, ℕ, zero, suc, ◌+◌, ◌-◌, ◌<◌, ◌≤◌, ◌⊎◌, ◌&&◌, Bool, true, false, cond, List, [], ◌∷◌, ◌++◌, length, get_or, take}
+use Rattle.std.proofs.Common.{count_by, refl, ap, inl, inr, arith, leb, ltb}
 use Rattle.std.proofs.lemmas.Bool.{cases_lt}
 use Rattle.std.proofs.lemmas.Bool.Decides.{nat_tests}
 use Rattle.std.proofs.lemmas.List.{take_all, take-take}
@@ -18,7 +19,12 @@ at_least : (p : ℕ → Bool) (xs : List ℕ) (i n : ℕ) → n ≤ length xs �
 at_least p xs i zero h e = omega arith
 at_least p xs i (suc n) h e = elim (cases_lt n i) [
   | inl c ↦ omega arith
-  | inr c ↦ omega (arith, at_least p xs i n (omega arith) (λ k a b. e k a (omega arith)), count_more p xs 0 n (omega arith), ap (λ (b : Bool). cond {A = ℕ} b 1 0) (e n c (omega arith)))
+  | inr c ↦ omega (
+    arith,
+    at_least p xs i n (omega arith) (λ k a b. e k a (omega arith)),
+    count_more p xs 0 n (omega arith),
+    ap (λ (b : Bool). cond {A = ℕ} b 1 0) (e n c (omega arith)),
+  )
 ]
 
 -- none before i passes
@@ -26,7 +32,12 @@ at_most : (p : ℕ → Bool) (xs : List ℕ) (i n : ℕ) → n ≤ length xs →
     ((k : ℕ) → k < i → k < n → p (get_or xs k 0) ≡ false) → count_by p (take n xs) ≤ n - i
 at_most p xs i zero h e = omega (arith, zero_count p xs)
 at_most p xs i (suc n) h e = elim (cases_lt n i) [
-  | inl c ↦ omega (arith, at_most p xs i n (omega arith) (λ k a b. e k a (omega arith)), count_more p xs 0 n (omega arith), ap (λ (b : Bool). cond {A = ℕ} b 1 0) (e n c (omega arith)))
+  | inl c ↦ omega (
+    arith,
+    at_most p xs i n (omega arith) (λ k a b. e k a (omega arith)),
+    count_more p xs 0 n (omega arith),
+    ap (λ (b : Bool). cond {A = ℕ} b 1 0) (e n c (omega arith)),
+  )
   | inr c ↦ omega (arith, at_most p xs i n (omega arith) (λ k a b. e k a (omega arith)), count_more p xs 0 n (omega arith), at_most_one (p (get_or xs n 0)))
 ]
 
@@ -38,7 +49,12 @@ none_after : (p : ℕ → Bool) (xs : List ℕ) (m n : ℕ) → n ≤ length xs 
     ((k : ℕ) → m ≤ k → k < n → p (get_or xs k 0) ≡ false) → count_by p (take n xs) ≤ count_by p (take m xs)
 none_after p xs m zero h e = omega (arith, zero_count p xs)
 none_after p xs m (suc n) h e = elim (cases_lt n m) [
-  | inr c ↦ omega (arith, none_after p xs m n (omega arith) (λ k a b. e k a (omega arith)), count_more p xs 0 n (omega arith), ap (λ (b : Bool). cond {A = ℕ} b 1 0) (e n c (omega arith)))
+  | inr c ↦ omega (
+    arith,
+    none_after p xs m n (omega arith) (λ k a b. e k a (omega arith)),
+    count_more p xs 0 n (omega arith),
+    ap (λ (b : Bool). cond {A = ℕ} b 1 0) (e n c (omega arith)),
+  )
   | inl c ↦ take_le p xs (suc n) m (omega arith)
 ]
 
@@ -53,7 +69,14 @@ two_parts : (p q r : ℕ → Bool) (xs : List ℕ) (n : ℕ) → n ≤ length xs
     count_by p (take n xs) ≤ count_by q (take n xs) + count_by r (take n xs)
 two_parts p q r xs zero h e = omega (arith, zero_count p xs)
 two_parts p q r xs (suc n) h e =
-    omega (arith, two_parts p q r xs n (omega arith) e, count_more p xs 0 n (omega arith), count_more q xs 0 n (omega arith), count_more r xs 0 n (omega arith), in_two (p (get_or xs n 0)) (q (get_or xs n 0)) (r (get_or xs n 0)) (e (get_or xs n 0)))
+    omega (
+      arith,
+      two_parts p q r xs n (omega arith) e,
+      count_more p xs 0 n (omega arith),
+      count_more q xs 0 n (omega arith),
+      count_more r xs 0 n (omega arith),
+      in_two (p (get_or xs n 0)) (q (get_or xs n 0)) (r (get_or xs n 0)) (e (get_or xs n 0)),
+    )
 
 whole : (p : ℕ → Bool) (xs : List ℕ) → count_by p (take (length xs) xs) ≡ count_by p xs
 whole p xs = ap (λ (l : List ℕ). count_by p l) (take_all (length xs) xs (omega arith))
@@ -63,14 +86,24 @@ pub arrived_least : (xs : List ℕ) (s u i : ℕ) → ((k : ℕ) → i ≤ k →
     ((k : ℕ) → k < length xs → get_or xs k 0 < u) → length xs - i ≤ arrived_in xs s u
 unfolding arrived_in
 arrived_least xs s u i low high =
-    omega (arith, whole (λ a. leb s a && ltb a u) xs, at_least (λ a. leb s a && ltb a u) xs i (length xs) (omega arith) (λ k a b. (let l = low k a b in let h = high k b in grind (arith, nat_tests))))
+    omega (
+      arith,
+      whole (λ a. leb s a && ltb a u) xs,
+      at_least (λ a. leb s a && ltb a u) xs i (length xs) (omega arith)
+          (λ k a b. (let l = low k a b in let h = high k b in grind (arith, nat_tests))),
+    )
 
 -- no arrival before number i is in the window
 pub arrived_most : (xs : List ℕ) (s u i : ℕ) → ((k : ℕ) → k < i → k < length xs → get_or xs k 0 < s) →
     arrived_in xs s u ≤ length xs - i
 unfolding arrived_in
 arrived_most xs s u i low =
-    omega (arith, whole (λ a. leb s a && ltb a u) xs, at_most (λ a. leb s a && ltb a u) xs i (length xs) (omega arith) (λ k a b. (let l = low k a b in grind (arith, nat_tests))))
+    omega (
+      arith,
+      whole (λ a. leb s a && ltb a u) xs,
+      at_most (λ a. leb s a && ltb a u) xs i (length xs) (omega arith)
+          (λ k a b. (let l = low k a b in grind (arith, nat_tests))),
+    )
 
 -- a window in two parts
 pub arrived_split : (xs : List ℕ) (s m u : ℕ) → arrived_in xs s u ≤ arrived_in xs s m + arrived_in xs m u
@@ -81,7 +114,8 @@ arrived_split xs s m u =
       whole (λ a. leb s a && ltb a u) xs,
       whole (λ a. leb s a && ltb a m) xs,
       whole (λ a. leb m a && ltb a u) xs,
-      two_parts (λ a. leb s a && ltb a u) (λ a. leb s a && ltb a m) (λ a. leb m a && ltb a u) xs (length xs) (omega arith) (λ x e. elim (cases_lt x m) [ inl c ↦ inl (grind (arith, nat_tests)) | inr c ↦ inr (grind (arith, nat_tests)) ]),
+      two_parts (λ a. leb s a && ltb a u) (λ a. leb s a && ltb a m) (λ a. leb m a && ltb a u) xs (length xs) (omega arith)
+          (λ x e. elim (cases_lt x m) [ inl c ↦ inl (grind (arith, nat_tests)) | inr c ↦ inr (grind (arith, nat_tests)) ]),
     )
 
 -- the arrivals from number i to before number m are in the window

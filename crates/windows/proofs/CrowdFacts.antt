@@ -1,5 +1,6 @@
 -- The first crowded job, from the first crowded tick of each task.
-use Rattle.std.proofs.Common.{◌≡◌, ℕ, suc, ◌+◌, ◌-◌, ◌==◌, ◌<◌, ◌≤◌, ◌⊎◌, ◌&&◌, ◌||◌, Bool, true, false, cond, List, [], ◌∷◌, length, get_or, count_by, map, filter, Option, Some, None, refl, sym, ◌∙◌, ap, subst, inl, inr, arith, leb, ltb}
+use Rattle.std.proofs.Common.{◌≡◌, ℕ, suc, ◌+◌, ◌-◌, ◌==◌, ◌<◌, ◌≤◌, ◌⊎◌, ◌&&◌, ◌||◌, Bool, true, false, cond, List, [], ◌∷◌, length, get_or}
+use Rattle.std.proofs.Common.{count_by, map, filter, Option, Some, None, refl, sym, ◌∙◌, ap, subst, inl, inr, arith, leb, ltb}
 use Rattle.std.specs.List.Sorted.{IsPermutation, IsNonDecreasing}
 use Rattle.std.proofs.lemmas.Bool.{cases_lt, cases_Bool}
 use Rattle.std.proofs.lemmas.Bool.Decides.{nat_tests}
@@ -18,7 +19,8 @@ use Rattle.schedule_laws.specs.Tests.{AreOf, AreEarly, is_crowded}
 use Rattle.schedule_laws.proofs.TestFacts.{crowded_from, crowded_to}
 use Rattle.schedule_laws.proofs.CrowdFacts.{arrival_or_none, none_arrive}
 use Rattle.windows.specs.Arrivals.{arrived_in}
-use Rattle.windows.specs.Crowds.{IsNoLater, IsFirstJob, IsCrowdedOf, comes_first, earlier_of, ArrivesAt, task_arrivals, AreArrivals, IsCrowdedTick, IsFirstCrowdedTick, IsFirstCrowded}
+use Rattle.windows.specs.Crowds.{IsNoLater, IsFirstJob, IsCrowdedOf, comes_first, earlier_of, ArrivesAt, task_arrivals, AreArrivals, IsCrowdedTick}
+use Rattle.windows.specs.Crowds.{IsFirstCrowdedTick, IsFirstCrowded}
 use Rattle.windows.proofs.ArrivalFacts.{arrived_range, arrived_permuted}
 
 -- the same jobs are counted by their arrivals
@@ -27,7 +29,8 @@ count_filtered : (q : Job → Bool) (p : ℕ → Bool) (js : List Job) →
 count_filtered q p [] = refl
 count_filtered q p (j ∷ js) = elim (cases_Bool (q j)) [
   | inl t ↦
-      let kept : map (λ (k : Job). k.arrival) (filter q (j ∷ js)) ≡ j.arrival ∷ map (λ (k : Job). k.arrival) (filter q js) = ap (λ (b : Bool). map (λ (k : Job). k.arrival) (cond b (j ∷ filter q js) (filter q js))) t in
+      let kept : map (λ (k : Job). k.arrival) (filter q (j ∷ js)) ≡ j.arrival ∷ map (λ (k : Job). k.arrival) (filter q js) =
+      ap (λ (b : Bool). map (λ (k : Job). k.arrival) (cond b (j ∷ filter q js) (filter q js))) t in
       omega (
         arith,
         ap (λ (l : List ℕ). count_by p l) kept,
@@ -37,7 +40,8 @@ count_filtered q p (j ∷ js) = elim (cases_Bool (q j)) [
         count_filtered q p js,
       )
   | inr f ↦
-      let left : map (λ (k : Job). k.arrival) (filter q (j ∷ js)) ≡ map (λ (k : Job). k.arrival) (filter q js) = ap (λ (b : Bool). map (λ (k : Job). k.arrival) (cond b (j ∷ filter q js) (filter q js))) f in
+      let left : map (λ (k : Job). k.arrival) (filter q (j ∷ js)) ≡ map (λ (k : Job). k.arrival) (filter q js) =
+      ap (λ (b : Bool). map (λ (k : Job). k.arrival) (cond b (j ∷ filter q js) (filter q js))) f in
       omega (
         arith,
         ap (λ (l : List ℕ). count_by p l) left,
@@ -69,7 +73,8 @@ module _ (run : Run) (o : ℕ) (xs : List ℕ) (are : AreArrivals run o xs) wher
           arith,
           none_arrive run o (get_or xs i 0) none,
           are.same (get_or xs i 0) (get_or xs i 0 + 1),
-          arrived_range xs (get_or xs i 0) (get_or xs i 0 + 1) i (suc i) (omega arith) (λ k l m. are.ascending i k 0 l (omega arith)) (λ k l m. omega (arith, are.ascending k i 0 (omega arith) b)),
+          arrived_range xs (get_or xs i 0) (get_or xs i 0 + 1) i (suc i) (omega arith)
+              (λ k l m. are.ascending i k 0 l (omega arith)) (λ k l m. omega (arith, are.ascending k i 0 (omega arith) b)),
         ))
   ]
 
@@ -85,7 +90,12 @@ module _ (run : Run) (o : ℕ) (xs : List ℕ) (are : AreArrivals run o xs) wher
         record {
           start = crowd.start;
           within = crowd.within;
-          many = omega (arith, are.same crowd.start ((job_at run n).arrival + 1), subst (λ w. alpha_of (task_at sheet w).curve ((job_at run n).arrival + 1 - crowd.start) < arrivals_of run w crowd.start ((job_at run n).arrival + 1)) e crowd.many);
+          many = omega (
+            arith,
+            are.same crowd.start ((job_at run n).arrival + 1),
+            subst (λ w. alpha_of (task_at sheet w).curve ((job_at run n).arrival + 1 - crowd.start) < arrivals_of run w
+                crowd.start ((job_at run n).arrival + 1)) e crowd.many,
+          );
         }
 
     job_of_tick : (n : ℕ) → (job_at run n).task ≡ o →
@@ -93,7 +103,8 @@ module _ (run : Run) (o : ℕ) (xs : List ℕ) (are : AreArrivals run o xs) wher
     job_of_tick n e crowd = crowded_to sheet run n (record {
       start = crowd.start;
       within = crowd.within;
-      many = subst (λ w. alpha_of (task_at sheet w).curve ((job_at run n).arrival + 1 - crowd.start) < arrivals_of run w crowd.start ((job_at run n).arrival + 1)) (sym e) (omega (arith, are.same crowd.start ((job_at run n).arrival + 1), crowd.many));
+      many = subst (λ w. alpha_of (task_at sheet w).curve ((job_at run n).arrival + 1 - crowd.start) < arrivals_of run w
+          crowd.start ((job_at run n).arrival + 1)) (sym e) (omega (arith, are.same crowd.start ((job_at run n).arrival + 1), crowd.many));
     })
 
     pub none_of_task : IsFirstCrowdedTick (task_at sheet o).curve xs None →
@@ -194,4 +205,5 @@ below_all sheet run (Some k) of first = (first.0, first.1.crowded, (λ n b crowd
 pub same_first_tick : (t u : Task) (xs ys : List ℕ) (r s : Option ℕ) → t ≡ u → xs ≡ ys → r ≡ s →
     IsFirstCrowdedTick t.curve xs r → IsFirstCrowdedTick u.curve ys s
 same_first_tick t u xs ys r s a b c first =
-    subst (λ (w : Option ℕ). IsFirstCrowdedTick u.curve ys w) c (subst (λ (l : List ℕ). IsFirstCrowdedTick u.curve l r) b (subst (λ (w : Task). IsFirstCrowdedTick w.curve xs r) a first))
+    subst (λ (w : Option ℕ). IsFirstCrowdedTick u.curve ys w) c
+    (subst (λ (l : List ℕ). IsFirstCrowdedTick u.curve l r) b (subst (λ (w : Task). IsFirstCrowdedTick w.curve xs r) a first))

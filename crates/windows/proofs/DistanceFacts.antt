@@ -10,7 +10,9 @@ use Rattle.windows.specs.declared.distances.Distance.{Distance}
 use Rattle.windows.specs.Crowds.{IsCrowdedPair}
 use Rattle.windows.specs.Distances.{no_distance, distance_at, KeepsSpan, Follows, IsListed, AreNeededBelow, AreNeeded, AreNeededOf, NeededDecide}
 
-module _ (spans : List ℕ) (needed : List Distance) (xs : List ℕ) (j : ℕ) (are : AreNeeded spans needed) (b : j < length spans) (free : (k m : ℕ) → k < j → m ≤ k → KeepsSpan spans xs k m) (look : (i : ℕ) → i < length needed → (distance_at needed i).apart ≤ j → KeepsSpan spans xs j (distance_at needed i).apart) where
+module _ (spans : List ℕ) (needed : List Distance) (xs : List ℕ) (j : ℕ) (are : AreNeeded spans needed) (b : j < length spans)
+    (free : (k m : ℕ) → k < j → m ≤ k → KeepsSpan spans xs k m) (look : (i : ℕ) → i < length needed →
+    (distance_at needed i).apart ≤ j → KeepsSpan spans xs j (distance_at needed i).apart) where
   by_look : (m : ℕ) → m ≤ j → IsListed needed m → KeepsSpan spans xs j m
   by_look m l at = subst (KeepsSpan spans xs j) at.apart (look at.place at.listed (omega (arith, at.apart)))
 
@@ -38,7 +40,8 @@ module _ (spans : List ℕ) (needed : List Distance) (xs : List ℕ) (j : ℕ) (
 pub needed_decide_law : NeededDecide
 needed_decide_law spans needed xs j are b free look m l = keeps_to spans needed xs j are b free look m m (omega arith) l
 
-module _ (c : Curve) (xs : List ℕ) (up : IsNonDecreasing xs) (early : (i : ℕ) → i < length xs → get_or xs i 0 ≤ greatest_number) (needed : List Distance) (of : AreNeededOf c (length xs) needed) where
+module _ (c : Curve) (xs : List ℕ) (up : IsNonDecreasing xs) (early : (i : ℕ) → i < length xs → get_or xs i 0 ≤ greatest_number)
+    (needed : List Distance) (of : AreNeededOf c (length xs) needed) where
   -- arrivals that are too close are crowded
   pub close_pair : (j m : ℕ) → j < length xs → m ≤ j → get_or xs j 0 + 1 - get_or xs (j - m) 0 < get_or of.spans m 0 →
       IsCrowdedPair c xs j (j - m)
@@ -46,7 +49,11 @@ module _ (c : Curve) (xs : List ℕ) (up : IsNonDecreasing xs) (early : (i : ℕ
     within = omega arith;
     many = elim (cases_lt (alpha_of c (get_or xs j 0 + 1 - get_or xs (j - m) 0)) (j - (j - m) + 1)) [
       | inl few ↦ few
-      | inr enough ↦ absurd (omega (arith, close, (of.are m (omega (arith, of.counted))).least (get_or xs j 0 + 1 - get_or xs (j - m) 0) (omega (arith, early j b)) (omega (arith, enough))))
+      | inr enough ↦ absurd (omega (
+        arith,
+        close,
+        (of.are m (omega (arith, of.counted))).least (get_or xs j 0 + 1 - get_or xs (j - m) 0) (omega (arith, early j b)) (omega (arith, enough)),
+      ))
     ];
   }
 
@@ -62,16 +69,19 @@ module _ (c : Curve) (xs : List ℕ) (up : IsNonDecreasing xs) (early : (i : ℕ
       (i : ℕ) → IsCrowdedPair c xs j i → ⊥
   no_pair j b free look i pair =
       let within = pair.within in
-      let kept = needed_decide_law of.spans needed xs j of.decided (omega (arith, of.counted)) (λ k m below l. kept_or_close k m (omega arith) l (free k (k - m) below)) look (j - i) (omega arith) in
+      let kept = needed_decide_law of.spans needed xs j of.decided (omega (arith, of.counted))
+      (λ k m below l. kept_or_close k m (omega arith) l (free k (k - m) below)) look (j - i) (omega arith) in
       let e : j - (j - i) ≡ i = omega arith in
       let long : get_or of.spans (j - i) 0 ≤ get_or xs j 0 + 1 - get_or xs i 0 = omega (arith, kept, ap (λ (w : ℕ). get_or xs w 0) e) in
       omega (arith, pair.many, (of.are (j - i) (omega (arith, of.counted))).admits (get_or xs j 0 + 1 - get_or xs i 0) (omega (arith, early j b)) long)
 
 -- which distances were looked at
 abbrev pub AreKept : List Distance → List ℕ → ℕ → ℕ → Type 0
-AreKept needed xs j n = (i : ℕ) → i < n → i < length needed → (distance_at needed i).apart ≤ j → (distance_at needed i).span + get_or xs (j - (distance_at needed i).apart) 0 ≤ get_or xs j 0 + 1
+AreKept needed xs j n = (i : ℕ) → i < n → i < length needed → (distance_at needed i).apart ≤ j →
+    (distance_at needed i).span + get_or xs (j - (distance_at needed i).apart) 0 ≤ get_or xs j 0 + 1
 
-module _ (c : Curve) (xs : List ℕ) (up : IsNonDecreasing xs) (early : (i : ℕ) → i < length xs → get_or xs i 0 ≤ greatest_number) (needed : List Distance) (of : AreNeededOf c (length xs) needed) (j : ℕ) (b : j < length xs) (free : (k i : ℕ) → k < j → IsCrowdedPair c xs k i → ⊥) where
+module _ (c : Curve) (xs : List ℕ) (up : IsNonDecreasing xs) (early : (i : ℕ) → i < length xs → get_or xs i 0 ≤ greatest_number)
+    (needed : List Distance) (of : AreNeededOf c (length xs) needed) (j : ℕ) (b : j < length xs) (free : (k i : ℕ) → k < j → IsCrowdedPair c xs k i → ⊥) where
   -- all of them were
   pub none_looked : AreKept needed xs j (length needed) → (i : ℕ) → IsCrowdedPair c xs j i → ⊥
   none_looked kept = no_pair c xs up early needed of j b free (λ i l m. omega (arith, kept i l l m, of.decided.each i l))
@@ -91,7 +101,11 @@ module _ (c : Curve) (xs : List ℕ) (up : IsNonDecreasing xs) (early : (i : ℕ
   pub some_pair : (n : ℕ) → n < length needed → (distance_at needed n).apart ≤ j →
       get_or xs j 0 + 1 - get_or xs (j - (distance_at needed n).apart) 0 < (distance_at needed n).span →
       (i : ℕ) × IsCrowdedPair c xs j i
-  some_pair n listed near close = (j - (distance_at needed n).apart, close_pair c xs up early needed of j (distance_at needed n).apart b near (omega (arith, close, of.decided.each n listed)))
+  some_pair n listed near close = (
+    j - (distance_at needed n).apart,
+    close_pair c xs up early needed of j (distance_at needed n).apart b near
+        (omega (arith, close, of.decided.each n listed)),
+  )
 
 -- one distance more, which follows from a shorter one
 pub needed_same : (spans : List ℕ) (needed : List Distance) (m : ℕ) → AreNeededBelow spans m needed → (p : ℕ) → Follows spans m p →
@@ -106,7 +120,8 @@ needed_same spans needed m are p follows = record {
   ascending = are.ascending;
 }
 
-module _ (spans : List ℕ) (needed : List Distance) (m : ℕ) (are : AreNeededBelow spans m needed) (x : Distance) (is_apart : x.apart ≡ m) (is_span : x.span ≡ get_or spans m 0) where
+module _ (spans : List ℕ) (needed : List Distance) (m : ℕ) (are : AreNeededBelow spans m needed) (x : Distance)
+    (is_apart : x.apart ≡ m) (is_span : x.span ≡ get_or spans m 0) where
   abbrev more : List Distance
   more = needed ++ x ∷ []
 
@@ -122,7 +137,12 @@ module _ (spans : List ℕ) (needed : List Distance) (m : ℕ) (are : AreNeededB
       get_or-append_right needed (x ∷ []) (length needed) (length needed) no_distance refl (omega arith) ∙ ap (λ (w : ℕ). get_or (x ∷ []) w no_distance) none
 
   old_listed : (n : ℕ) → IsListed needed n → IsListed more n
-  old_listed n at = record { place = at.place; listed = omega (arith, count, at.listed); apart = ap (λ (d : Distance). d.apart) (old_at at.place at.listed) ∙ at.apart }
+  old_listed n at = record {
+    place = at.place;
+    listed = omega (arith, count, at.listed);
+    apart =
+        ap (λ (d : Distance). d.apart) (old_at at.place at.listed) ∙ at.apart;
+  }
 
   new_listed : IsListed more m
   new_listed = record { place = length needed; listed = omega (arith, count); apart = ap (λ (d : Distance). d.apart) new_at ∙ is_apart }
@@ -147,7 +167,14 @@ module _ (spans : List ℕ) (needed : List Distance) (m : ℕ) (are : AreNeededB
       | inl old ↦ omega (arith, are.ascending i k h old, ap (λ (d : Distance). d.apart) (old_at k old), ap (λ (d : Distance). d.apart) (old_at i (omega arith)))
       | inr new ↦
           let e : k ≡ length needed = omega (arith, count) in
-          omega (arith, are.below i (omega arith), ap (λ (d : Distance). d.apart) (old_at i (omega arith)), ap (λ (w : ℕ). (distance_at more w).apart) e, ap (λ (d : Distance). d.apart) new_at, is_apart)
+          omega (
+            arith,
+            are.below i (omega arith),
+            ap (λ (d : Distance). d.apart) (old_at i (omega arith)),
+            ap (λ (w : ℕ). (distance_at more w).apart) e,
+            ap (λ (d : Distance). d.apart) new_at,
+            is_apart,
+          )
     ];
   }
 

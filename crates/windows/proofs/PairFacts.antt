@@ -26,7 +26,11 @@ reached xs bound (suc n) =
           suc n,
           record {
             within = omega arith;
-            before = λ k b. elim (cases_lt k n) [ inl c ↦ r.1.before k (omega arith) | inr c ↦ let same : n ≡ k = omega arith in subst (λ w. get_or xs w 0 < bound) same low ];
+            before = λ k b. elim (cases_lt k n) [
+              | inl c ↦ r.1.before k (omega arith)
+              | inr c ↦ let same : n ≡ k =
+                  omega arith in subst (λ w. get_or xs w 0 < bound) same low
+            ];
             here = λ l. absurd (omega arith);
           },
         )
@@ -40,7 +44,12 @@ module _ (c : Curve) (ok : IsCurve c) (xs : List ℕ) (up : IsNonDecreasing xs) 
   pair_crowds j i b pair = record {
     start = get_or xs i 0;
     within = up i j 0 pair.within b;
-    many = omega (arith, pair.many, arrived_range xs (get_or xs i 0) (get_or xs j 0 + 1) i (j + 1) (omega arith) (λ k l m. up i k 0 l (omega arith)) (λ k l m. omega (arith, up k j 0 (omega arith) b)));
+    many = omega (
+      arith,
+      pair.many,
+      arrived_range xs (get_or xs i 0) (get_or xs j 0 + 1) i (j + 1) (omega arith)
+          (λ k l m. up i k 0 l (omega arith)) (λ k l m. omega (arith, up k j 0 (omega arith) b)),
+    );
   }
 
   -- where no pair up to number m is crowded, no tick before the arrival m is
@@ -65,7 +74,8 @@ module _ (c : Curve) (ok : IsCurve c) (xs : List ℕ) (up : IsNonDecreasing xs) 
             arith,
             crowd.many,
             most,
-            alpha_mono c ok (get_or xs (last.0 - 1) 0 + 1 - get_or xs first.0 0) (b + 1 - s) (omega (arith, last.1.before (last.0 - 1) (omega arith), first.1.here (omega arith))),
+            alpha_mono c ok (get_or xs (last.0 - 1) 0 + 1 - get_or xs first.0 0) (b + 1 - s)
+                (omega (arith, last.1.before (last.0 - 1) (omega arith), first.1.here (omega arith))),
           );
         })
       ]

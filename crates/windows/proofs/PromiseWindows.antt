@@ -72,11 +72,16 @@ module _ (horizon : ℕ) (times : List ℕ) (f : Facts horizon times) where
 
   -- a window whose length is a promised time
   pub promised_at_time : (k : ℕ) → k < length times → promised horizon times (get_or times k 0) ≡ suc k
-  promised_at_time k b = omega (arith, promised_inside (get_or times k 0) (omega (arith, time_within times 0 k f.rise b, f.last)), count_there times 0 k f.rise b)
+  promised_at_time k b = omega (
+    arith,
+    promised_inside (get_or times k 0) (omega (arith, time_within times 0 k f.rise b, f.last)),
+    count_there times 0 k f.rise b,
+  )
 
 -- with tick t off, the windows of the first n promised times have the promised ticks
 abbrev pub HaveTimes : List ℕ → List ℕ → ℕ → ℕ → Type 0
-HaveTimes times counts t n = (k : ℕ) → k < n → k < length times → get_or times k 0 ≤ t + 1 → suc k + get_or counts (t + 1 - get_or times k 0) 0 ≤ get_or counts t 0
+HaveTimes times counts t n = (k : ℕ) → k < n → k < length times → get_or times k 0 ≤ t + 1 →
+    suc k + get_or counts (t + 1 - get_or times k 0) 0 ≤ get_or counts t 0
 
 module _ (horizon : ℕ) (times : List ℕ) (f : Facts horizon times) (counts : List ℕ) (t : ℕ) (past : ArePromised (promised horizon times) counts t) where
   grown : (s u : ℕ) → s ≤ u → u ≤ t → get_or counts s 0 ≤ get_or counts u 0
@@ -103,7 +108,11 @@ module _ (horizon : ℕ) (times : List ℕ) (f : Facts horizon times) (counts : 
       promised horizon times (t + 1 - s) + get_or counts s 0 ≤ get_or counts t 0
   long_window have zero s h b =
       let p = f.positive in
-      omega (arith, promised_inside horizon times f (t + 1 - s) (omega arith), short_window have s (t + 1 - s) h (omega arith) (omega arith) (count_of times (t + 1 - s)) refl)
+      omega (
+        arith,
+        promised_inside horizon times f (t + 1 - s) (omega arith),
+        short_window have s (t + 1 - s) h (omega arith) (omega arith) (count_of times (t + 1 - s)) refl,
+      )
   long_window have (suc n) s h b = elim (cases_lt horizon (t + 1 - s)) [
     | inr c ↦ omega (arith, promised_inside horizon times f (t + 1 - s) c, short_window have s (t + 1 - s) h (omega arith) c (count_of times (t + 1 - s)) refl)
     | inl c ↦
@@ -111,7 +120,14 @@ module _ (horizon : ℕ) (times : List ℕ) (f : Facts horizon times) (counts : 
         let rest = long_window have n (s + horizon) (omega arith) (omega arith) in
         let e : t + 1 - s ≡ t + 1 - (s + horizon) + horizon = omega arith in
         let g : s + horizon - s ≡ horizon = omega arith in
-        omega (arith, rest, past.kept s (s + horizon) (omega arith) (omega arith), ap (promised horizon times) e, ap (promised horizon times) g, promised_more horizon times f (t + 1 - (s + horizon)))
+        omega (
+          arith,
+          rest,
+          past.kept s (s + horizon) (omega arith) (omega arith),
+          ap (promised horizon times) e,
+          ap (promised horizon times) g,
+          promised_more horizon times f (t + 1 - (s + horizon)),
+        )
   ]
 
   -- the windows of the promised times suffice
@@ -127,7 +143,8 @@ module _ (horizon : ℕ) (times : List ℕ) (f : Facts horizon times) (counts : 
       let e : t + 1 - (t + 1 - get_or times k 0) ≡ get_or times k 0 = omega arith in
       omega (arith, may (t + 1 - get_or times k 0) (omega (arith, first)), ap (promised horizon times) e, promised_at_time horizon times f k b)
 
-module _ (spec : SupplySpec) (horizon : ℕ) (times counts : List ℕ) (t : ℕ) (is : Promised horizon times ≡ spec) (promise : IsPromise spec) (past : ArePromised (sbf_of spec) counts t) where
+module _ (spec : SupplySpec) (horizon : ℕ) (times counts : List ℕ) (t : ℕ) (is : Promised horizon times ≡ spec)
+    (promise : IsPromise spec) (past : ArePromised (sbf_of spec) counts t) where
   facts : Facts horizon times
   facts = facts_of (record { horizon = horizon; times = times }) (subst IsPromise (sym is) promise)
 
@@ -142,4 +159,5 @@ module _ (spec : SupplySpec) (horizon : ℕ) (times counts : List ℕ) (t : ℕ)
 
   pub time_refutes : (k : ℕ) → k < length times → get_or times k 0 ≤ t + 1 →
       get_or counts t 0 < suc k + get_or counts (t + 1 - get_or times k 0) 0 → MayBeOff (sbf_of spec) counts t → ⊥
-  time_refutes k b near few may = time_fails horizon times facts counts t past_of k b near few (subst (λ (s : SupplySpec). MayBeOff (sbf_of s) counts t) (sym is) may)
+  time_refutes k b near few may = time_fails horizon times facts counts t past_of k b near few
+      (subst (λ (s : SupplySpec). MayBeOff (sbf_of s) counts t) (sym is) may)

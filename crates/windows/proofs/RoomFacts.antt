@@ -45,7 +45,12 @@ module _ (c : Curve) (ok : IsCurve c) (xs : List ℕ) (t : ℕ) (past : IsPast c
   enough : (j : ℕ) → j < length xs → length xs - j ≤ alpha_of c (t + 1 - get_or xs j 0)
   enough j b =
       let at = past.before j b in
-      omega (arith, arrived_least xs (get_or xs j 0) t j (λ k a b. past.ascending j k 0 a b) past.before, past.within (get_or xs j 0) t (omega arith), alpha_mono c ok (t - get_or xs j 0) (t + 1 - get_or xs j 0) (omega arith))
+      omega (
+        arith,
+        arrived_least xs (get_or xs j 0) t j (λ k a b. past.ascending j k 0 a b) past.before,
+        past.within (get_or xs j 0) t (omega arith),
+        alpha_mono c ok (t - get_or xs j 0) (t + 1 - get_or xs j 0) (omega arith),
+      )
 
   scan_more : (j step later room new : ℕ) → IsScanned c xs t (suc j) step room →
       IsLastStep c.steps (t + 1 - get_or xs j 0) later →
@@ -61,10 +66,18 @@ module _ (c : Curve) (ok : IsCurve c) (xs : List ℕ) (t : ℕ) (past : IsPast c
         most = omega (arith, old.most);
         tight = elim which [
           | inl e ↦ subst (λ r. (r ≡ alpha_of c 1) ⊎ IsTight c xs t r) (sym e) old.tight
-          | inr e ↦ inr (get_or xs j 0, (let at = past.before j b in omega arith), omega (arith, arrived_least xs (get_or xs j 0) t j (λ k a b. past.ascending j k 0 a b) past.before, enough j b))
+          | inr e ↦ inr (
+            get_or xs j 0,
+            (let at = past.before j b in omega arith),
+            omega (arith, arrived_least xs (get_or xs j 0) t j (λ k a b. past.ascending j k 0 a b) past.before, enough j b),
+          )
         ];
         fit = λ s h all. elim (cases_lt (get_or xs j 0) s) [
-          | inl l ↦ omega (arith, old.fit s h (λ k a. elim (cases_lt k j) [ inl d ↦ all k d | inr d ↦ (let e : j ≡ k = omega arith in subst (λ i. get_or xs i 0 < s) e l) ]))
+          | inl l ↦ omega (
+            arith,
+            old.fit s h
+                (λ k a. elim (cases_lt k j) [ inl d ↦ all k d | inr d ↦ (let e : j ≡ k = omega arith in subst (λ i. get_or xs i 0 < s) e l) ]),
+          )
           | inr l ↦ omega (arith, arrived_most xs s t j (λ k a b. all k a), enough j b, alpha_mono c ok (t + 1 - get_or xs j 0) (t + 1 - s) (omega arith))
         ];
       }
@@ -76,7 +89,8 @@ module _ (c : Curve) (ok : IsCurve c) (xs : List ℕ) (t : ℕ) (past : IsPast c
   scan_least j step later room left new old reached near is least =
       let short = old.short in
       let value : alpha_of c (t + 1 - get_or xs j 0) ≡ (step_at c.steps later).value = alpha_is c ok (t + 1 - get_or xs j 0) later (omega arith) reached in
-      scan_more j step later room new old reached (elim (cases_lt left room) [ inl l ↦ inr (omega arith) | inr l ↦ inl (omega arith) ]) (omega arith) (omega arith)
+      scan_more j step later room new old reached
+      (elim (cases_lt left room) [ inl l ↦ inr (omega arith) | inr l ↦ inl (omega arith) ]) (omega arith) (omega arith)
 
   -- the arrivals from the next one on are no more than the step's value
   enough_at : (j step later room : ℕ) → IsScanned c xs t (suc j) step room →
@@ -102,7 +116,15 @@ module _ (c : Curve) (ok : IsCurve c) (xs : List ℕ) (t : ℕ) (past : IsPast c
         let rest = every j step room d (s + c.horizon) scan far (omega arith) (omega arith) in
         let e : t + 1 - s ≡ t + 1 - (s + c.horizon) + c.horizon = omega arith in
         let f : s + c.horizon - s ≡ c.horizon = omega arith in
-        omega (arith, rest, arrived_split xs s (s + c.horizon) t, past.within s (s + c.horizon) (omega arith), ap (alpha_of c) e, ap (alpha_of c) f, alpha_more c ok (t + 1 - (s + c.horizon)))
+        omega (
+          arith,
+          rest,
+          arrived_split xs s (s + c.horizon) t,
+          past.within s (s + c.horizon) (omega arith),
+          ap (alpha_of c) e,
+          ap (alpha_of c) f,
+          alpha_more c ok (t + 1 - (s + c.horizon)),
+        )
   ]
 
   at_next : (i step room : ℕ) → 0 < i → IsScanned c xs t i step room → IsScanned c xs t (suc (i - 1)) step room
@@ -113,7 +135,12 @@ module _ (c : Curve) (ok : IsCurve c) (xs : List ℕ) (t : ℕ) (past : IsPast c
       IsScanned c xs t i step room → IsLastStep steps (t + 1 - get_or xs (i - 1) 0) later →
       t - get_or xs (i - 1) 0 < c.horizon → length xs - (i - 1) ≤ (step_at steps later).value
   enough_next steps is i step later room some scan reached near =
-      omega (arith, enough_at (i - 1) step later room (at_next i step room some scan) (subst (λ (l : List Step). IsLastStep l (t + 1 - get_or xs (i - 1) 0) later) is reached) near, ap (λ (l : List Step). (step_at l later).value) is)
+      omega (
+        arith,
+        enough_at (i - 1) step later room (at_next i step room some scan)
+            (subst (λ (l : List Step). IsLastStep l (t + 1 - get_or xs (i - 1) 0) later) is reached) near,
+        ap (λ (l : List Step). (step_at l later).value) is,
+      )
 
   pub scan_next : (steps : List Step) → steps ≡ c.steps → (i step later room new : ℕ) → 0 < i →
       IsScanned c xs t i step room → IsLastStep steps (t + 1 - get_or xs (i - 1) 0) later →
@@ -121,7 +148,8 @@ module _ (c : Curve) (ok : IsCurve c) (xs : List ℕ) (t : ℕ) (past : IsPast c
       new ≡ min room ((step_at steps later).value - (length xs - (i - 1))) → IsScanned c xs t (i - 1) later new
   scan_next steps is i step later room new some scan reached near least =
       let fits = enough_next steps is i step later room some scan reached near in
-      scan_least (i - 1) step later room ((step_at steps later).value - (length xs - (i - 1))) new (at_next i step room some scan) (subst (λ (l : List Step). IsLastStep l (t + 1 - get_or xs (i - 1) 0) later) is reached) near
+      scan_least (i - 1) step later room ((step_at steps later).value - (length xs - (i - 1))) new (at_next i step room some scan)
+      (subst (λ (l : List Step). IsLastStep l (t + 1 - get_or xs (i - 1) 0) later) is reached) near
       (omega (arith, ap (λ (l : List Step). (step_at l later).value) is)) least
 
   -- no number above the room passes
@@ -136,7 +164,9 @@ module _ (c : Curve) (ok : IsCurve c) (xs : List ℕ) (t : ℕ) (past : IsPast c
       ((s : ℕ) → s ≤ t → arrived_in xs s t + room ≤ alpha_of c (t + 1 - s)) → room ≡ allowance_in c xs t
   unfolding allowance_in
   allowance_is room most tight all =
-      sym (greatest_is (admits_in c xs t) room (alpha_of c 1) most (inr (all_from (λ s. leb (arrived_in xs s t + room) (alpha_of c (t + 1 - s))) (t + 1) (λ s b. le-leb _ _ (all s (omega arith))))) (λ k a b. none_above room k tight a b))
+      sym (greatest_is (admits_in c xs t) room (alpha_of c 1) most
+      (inr (all_from (λ s. leb (arrived_in xs s t + room) (alpha_of c (t + 1 - s))) (t + 1)
+      (λ s b. le-leb _ _ (all s (omega arith))))) (λ k a b. none_above room k tight a b))
 
   -- all arrivals have been looked at
   pub allowance_all : (i step room : ℕ) → i ≡ 0 → IsScanned c xs t i step room → room ≡ allowance_in c xs t
@@ -145,7 +175,8 @@ module _ (c : Curve) (ok : IsCurve c) (xs : List ℕ) (t : ℕ) (past : IsPast c
   -- the next arrival is a horizon ago
   pub allowance_far : (i step room : ℕ) → 0 < i → IsScanned c xs t i step room →
       c.horizon ≤ t - get_or xs (i - 1) 0 → room ≡ allowance_in c xs t
-  allowance_far i step room some scan far = allowance_is room scan.most scan.tight (λ s l. every (i - 1) step room (t - s) s (at_next i step room some scan) far (omega arith) l)
+  allowance_far i step room some scan far =
+      allowance_is room scan.most scan.tight (λ s l. every (i - 1) step room (t - s) s (at_next i step room some scan) far (omega arith) l)
 
   -- no room is left
   pub allowance_none : (i step room : ℕ) → IsScanned c xs t i step room → room ≡ 0 → room ≡ allowance_in c xs t

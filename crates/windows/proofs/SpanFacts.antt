@@ -32,7 +32,8 @@ module _ (c : Curve) (ok : IsCurve c) (n d : ℕ) (span : IsSpan c n d) where
     ]);
   }
   span_rises (Some r) few rises = record {
-    admits = λ e h l. (let later = rises.1.holds.later in omega (arith, rises.1.holds.higher, span.admits d (omega arith) (omega arith), alpha_mono c ok r e l));
+    admits = λ e h l. (let later =
+        rises.1.holds.later in omega (arith, rises.1.holds.higher, span.admits d (omega arith) (omega arith), alpha_mono c ok r e l));
     least = λ e h l. elim (cases_lt d e) [
       | inl later ↦ rises.1.least e (record { later = later; higher = omega (arith, l, few) })
       | inr same ↦ absurd (omega (arith, l, few, alpha_mono c ok e d same))

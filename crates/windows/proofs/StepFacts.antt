@@ -33,7 +33,12 @@ pub alpha_is : (c : Curve) → IsCurve c → (d i : ℕ) → d ≤ c.horizon →
 unfolding value_of
 alpha_is c ok d i h at =
     let zero_horizons : 0 * c.horizon + d ≡ d = omega arith in
-    omega (arith, ap (alpha_of c) zero_horizons, alpha_at c ok 0 d h, last_value_at c.steps 0 0 0 d i (rising_from c ok) at.listed at.begun (λ l. rw add-one at (at.last (omega arith))))
+    omega (
+      arith,
+      ap (alpha_of c) zero_horizons,
+      alpha_at c ok 0 d h,
+      last_value_at c.steps 0 0 0 d i (rising_from c ok) at.listed at.begun (λ l. rw add-one at (at.last (omega arith))),
+    )
 
 -- one more horizon
 pub alpha_more : (c : Curve) → IsCurve c → (d : ℕ) → alpha_of c (d + c.horizon) ≡ alpha_of c d + alpha_of c c.horizon
@@ -62,8 +67,15 @@ pub record IsFirstStep (steps : List Step) : Type 0 where
 
 first_of_steps : (steps : List Step) → StartsAtOne steps → RiseFrom 0 0 steps → IsFirstStep steps
 first_of_steps [] first rise = absurd first
-first_of_steps (s ∷ []) first rise = record { listed = omega arith; time = first; last = record { listed = omega arith; begun = omega (arith, first); last = λ l. absurd (omega arith) } }
-first_of_steps (s ∷ (n ∷ steps)) first rise = record { listed = omega arith; time = first; last = record { listed = omega arith; begun = omega (arith, first); last = λ l. rw add-one (omega (arith, first, rise.2.0)) } }
+first_of_steps (s ∷ []) first rise =
+    record { listed = omega arith; time = first; last = record { listed = omega arith; begun = omega (arith, first); last = λ l. absurd (omega arith) } }
+first_of_steps (s ∷ (n ∷ steps)) first rise =
+    record {
+      listed = omega arith;
+      time = first;
+      last =
+          record { listed = omega arith; begun = omega (arith, first); last = λ l. rw add-one (omega (arith, first, rise.2.0)) };
+    }
 
 pub first_step : (c : Curve) → IsCurve c → IsFirstStep c.steps
 first_step c ok = first_of_steps c.steps (first_at_one c ok) (rising_from c ok)

@@ -1,5 +1,6 @@
 -- The first short tick, from the counts of supplied ticks.
-use Rattle.std.proofs.Common.{◌≡◌, ℕ, zero, suc, ◌+◌, ◌-◌, ◌<◌, ◌≤◌, Bool, true, false, cond, List, [], ◌∷◌, ◌++◌, length, get_or, ap, inl, inr, arith, add-zero, add-suc, add-one}
+use Rattle.std.proofs.Common.{◌≡◌, ℕ, zero, suc, ◌+◌, ◌-◌, ◌<◌, ◌≤◌, Bool, true, false, cond, List, [], ◌∷◌, ◌++◌, length, get_or, ap, inl, inr}
+use Rattle.std.proofs.Common.{arith, add-zero, add-suc, add-one}
 use Rattle.std.proofs.lemmas.Bool.{cases_lt, both_ways, false_from_ne_true, true_from_ne_false}
 use Rattle.std.proofs.lemmas.List.{length-append, get_or_append_left, get_or-append_right}
 use Rattle.run_model.specs.declared.run.Run.{Run}
@@ -13,7 +14,13 @@ use Rattle.windows.specs.Supplied.{AreCounts, ArePromised, MayBeOff}
 pub counts_start : (run : Run) (counts : List ℕ) → counts ≡ 0 ∷ [] → AreCounts run counts 0
 counts_start run counts e = record {
   counted = omega (arith, ap length e);
-  each = λ s h. let z : s ≡ 0 = omega arith in omega (arith, ap (λ (l : List ℕ). get_or l 0 0) e, ap (λ (w : ℕ). get_or counts w 0) z, ap (ticks_in is_on run 0) z, ticks_in_none is_on run 0);
+  each = λ s h. let z : s ≡ 0 = omega arith in omega (
+    arith,
+    ap (λ (l : List ℕ). get_or l 0 0) e,
+    ap (λ (w : ℕ). get_or counts w 0) z,
+    ap (ticks_in is_on run 0) z,
+    ticks_in_none is_on run 0,
+  );
 }
 
 pub counts_more : (run : Run) (counts : List ℕ) (t x : ℕ) → AreCounts run counts t →
@@ -25,7 +32,13 @@ counts_more run counts t x are e = record {
     | inr l ↦
         let last : s ≡ t + 1 = omega arith in
         let none : t + 1 - (t + 1) ≡ 0 = omega arith in
-        omega (arith, ap (λ (w : ℕ). get_or (counts ++ x ∷ []) w 0) last, get_or-append_right counts (x ∷ []) (t + 1) (t + 1) 0 are.counted (omega arith), ap (λ (w : ℕ). get_or (x ∷ []) w 0) none, ap (ticks_in is_on run 0) last)
+        omega (
+          arith,
+          ap (λ (w : ℕ). get_or (counts ++ x ∷ []) w 0) last,
+          get_or-append_right counts (x ∷ []) (t + 1) (t + 1) 0 are.counted (omega arith),
+          ap (λ (w : ℕ). get_or (x ∷ []) w 0) none,
+          ap (ticks_in is_on run 0) last,
+        )
   ];
 }
 
@@ -36,7 +49,8 @@ supplied_more run t h =
     let e : 0 + t ≡ t = omega arith in
     rw add-one (omega (arith, ticks_in_more is_on run 0 t (omega arith), ap (λ (w : ℕ). cond {A = ℕ} (is_on (tick_at run w)) 1 0) e))
 
-module _ (sbf : ℕ → ℕ) (starts : sbf 0 ≡ 0) (grows : (d : ℕ) → (sbf d ≤ sbf (d + 1)) × (sbf (d + 1) ≤ sbf d + 1)) (run : Run) (counts : List ℕ) (t : ℕ) (are : AreCounts run counts t) where
+module _ (sbf : ℕ → ℕ) (starts : sbf 0 ≡ 0) (grows : (d : ℕ) → (sbf d ≤ sbf (d + 1)) × (sbf (d + 1) ≤ sbf d + 1)) (run : Run)
+    (counts : List ℕ) (t : ℕ) (are : AreCounts run counts t) where
   -- in a window [s, u) of the ticks so far
   window_of : (s u : ℕ) → s ≤ u → u ≤ t → t ≤ length run.ticks →
       get_or counts u 0 ≡ get_or counts s 0 + ticks_in is_on run s (u - s)
@@ -51,7 +65,8 @@ module _ (sbf : ℕ → ℕ) (starts : sbf 0 ≡ 0) (grows : (d : ℕ) → (sbf 
       let d : 0 - s ≡ 0 = omega arith in
       omega (arith, ap sbf d, ap (λ (w : ℕ). get_or counts w 0) z)
   kept_by free m s (suc v) h l = elim (cases_lt (ticks_in is_on run s (suc v - s)) (sbf (suc v - s))) [
-    | inl few ↦ absurd (both_ways (is_short sbf run (suc v)) (rw add-one at (free v (omega arith))) (short_to sbf run (suc v) (record { start = s; within = h; few = few })))
+    | inl few ↦ absurd (both_ways (is_short sbf run (suc v)) (rw add-one at (free v (omega arith)))
+        (short_to sbf run (suc v) (record { start = s; within = h; few = few })))
     | inr enough ↦ omega (arith, window_of s (suc v) h l m)
   ]
 
@@ -65,7 +80,14 @@ module _ (sbf : ℕ → ℕ) (starts : sbf 0 ≡ 0) (grows : (d : ℕ) → (sbf 
       get_or counts t 0 + cond (is_on (tick_at run t)) 1 0 ≡ get_or counts s 0 + ticks_in is_on run s (t + 1 - s)
   window_now s h l =
       let e : s + (t + 1 - s) ≡ t + 1 = omega arith in
-      omega (arith, are.each s h, are.each t (omega arith), supplied_more run t l, ticks_in_split is_on run s (t + 1 - s) (omega arith), ap (ticks_in is_on run 0) e)
+      omega (
+        arith,
+        are.each s h,
+        are.each t (omega arith),
+        supplied_more run t l,
+        ticks_in_split is_on run s (t + 1 - s) (omega arith),
+        ap (ticks_in is_on run 0) e,
+      )
 
   -- where every window that ends with tick t has the promised ticks, none is short
   none_short : ((s : ℕ) → s ≤ t → sbf (t + 1 - s) ≤ ticks_in is_on run s (t + 1 - s)) → is_short sbf run (t + 1) ≡ false
@@ -91,14 +113,15 @@ module _ (sbf : ℕ → ℕ) (starts : sbf 0 ≡ 0) (grows : (d : ℕ) → (sbf 
 
   pub off_short : (MayBeOff sbf counts t → ⊥) → t < length run.ticks → is_on (tick_at run t) ≡ false →
       is_short sbf run (t + 1) ≡ true
-  off_short never l off = true_from_ne_false (is_short sbf run (t + 1)) (λ h. never (λ s c. elim (cases_lt (get_or counts t 0) (sbf (t + 1 - s) + get_or counts s 0)) [
-    | inr enough ↦ enough
-    | inl few ↦ absurd (both_ways (is_short sbf run (t + 1)) h (short_to sbf run (t + 1) (record {
-      start = s;
-      within = omega arith;
-      few = omega (arith, few, window_now s c l, ap (λ (b : Bool). cond {A = ℕ} b 1 0) off);
-    })))
-  ]))
+  off_short never l off = true_from_ne_false (is_short sbf run (t + 1))
+      (λ h. never (λ s c. elim (cases_lt (get_or counts t 0) (sbf (t + 1 - s) + get_or counts s 0)) [
+        | inr enough ↦ enough
+        | inl few ↦ absurd (both_ways (is_short sbf run (t + 1)) h (short_to sbf run (t + 1) (record {
+          start = s;
+          within = omega arith;
+          few = omega (arith, few, window_now s c l, ap (λ (b : Bool). cond {A = ℕ} b 1 0) off);
+        })))
+      ]))
 
 -- the counts so far, and the last of them
 pub record KeepsCount (run : Run) (xs : List ℕ) (t x : ℕ) : Type 0 where

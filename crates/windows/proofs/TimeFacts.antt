@@ -15,9 +15,11 @@ use Rattle.windows.proofs.PromiseWindows.{HaveTimes, promised_at_time, times_all
 
 -- with tick t off, the windows of the first n needed times have the promised ticks
 abbrev pub HaveNeeded : List PromisedTime → List ℕ → ℕ → ℕ → Type 0
-HaveNeeded needed counts t n = (i : ℕ) → i < n → i < length needed → (time_at needed i).time ≤ t + 1 → suc (time_at needed i).before + get_or counts (t + 1 - (time_at needed i).time) 0 ≤ get_or counts t 0
+HaveNeeded needed counts t n = (i : ℕ) → i < n → i < length needed → (time_at needed i).time ≤ t + 1 →
+    suc (time_at needed i).before + get_or counts (t + 1 - (time_at needed i).time) 0 ≤ get_or counts t 0
 
-module _ (horizon : ℕ) (times : List ℕ) (f : Facts horizon times) (needed : List PromisedTime) (are : AreNeededTimesBelow times (length times) needed) (counts : List ℕ) (t : ℕ) (past : ArePromised (promised horizon times) counts t) where
+module _ (horizon : ℕ) (times : List ℕ) (f : Facts horizon times) (needed : List PromisedTime)
+    (are : AreNeededTimesBelow times (length times) needed) (counts : List ℕ) (t : ℕ) (past : ArePromised (promised horizon times) counts t) where
   -- the window of the time number k has its ticks
   abbrev HasTime : ℕ → Type 0
   HasTime k = get_or times k 0 ≤ t + 1 → suc k + get_or counts (t + 1 - get_or times k 0) 0 ≤ get_or counts t 0
@@ -40,7 +42,13 @@ module _ (horizon : ℕ) (times : List ℕ) (f : Facts horizon times) (needed : 
       let m : ℕ = s + get_or times i 0 in
       let u : ℕ = t + 1 - get_or times (k - 1 - i) 0 in
       let g : m - s ≡ get_or times i 0 = omega arith in
-      let front : suc i + get_or counts s 0 ≤ get_or counts m 0 = omega (arith, past.kept s m (omega arith) (omega (arith, last, first)), ap (promised horizon times) g, promised_at_time horizon times f i (omega arith)) in
+      let front : suc i + get_or counts s 0 ≤ get_or counts m 0 =
+      omega (
+        arith,
+        past.kept s m (omega arith) (omega (arith, last, first)),
+        ap (promised horizon times) g,
+        promised_at_time horizon times f i (omega arith),
+      ) in
       let between : get_or counts m 0 ≤ get_or counts u 0 = omega (arith, past.kept m u (omega arith) (omega (arith, last))) in
       omega (arith, front, between, rest (omega arith))
 
@@ -66,12 +74,20 @@ module _ (horizon : ℕ) (times : List ℕ) (f : Facts horizon times) (needed : 
   needed_rest i listed have long k b c near = elim (cases_lt k i) [
     | inl l ↦ have k l c near
     | inr l ↦ absurd (elim (cases_lt i k) [
-      | inl later ↦ omega (arith, long, near, are.each i listed, are.each k c, times_rise times 0 (time_at needed i).before (time_at needed k).before f.rise (omega (arith, are.ascending i k later c)) (are.below k c))
+      | inl later ↦ omega (
+        arith,
+        long,
+        near,
+        are.each i listed,
+        are.each k c,
+        times_rise times 0 (time_at needed i).before (time_at needed k).before f.rise (omega (arith, are.ascending i k later c)) (are.below k c),
+      )
       | inr same ↦ let e : k ≡ i = omega arith in omega (arith, long, near, ap (λ (w : ℕ). (time_at needed w).time) e)
     ])
   ]
 
-module _ (spec : SupplySpec) (horizon : ℕ) (times counts : List ℕ) (t : ℕ) (is : Promised horizon times ≡ spec) (promise : IsPromise spec) (past : ArePromised (sbf_of spec) counts t) (needed : List PromisedTime) (are : AreNeededTimes spec needed) where
+module _ (spec : SupplySpec) (horizon : ℕ) (times counts : List ℕ) (t : ℕ) (is : Promised horizon times ≡ spec)
+    (promise : IsPromise spec) (past : ArePromised (sbf_of spec) counts t) (needed : List PromisedTime) (are : AreNeededTimes spec needed) where
   facts : Facts horizon times
   facts = facts_of (record { horizon = horizon; times = times }) (subst IsPromise (sym is) promise)
 
@@ -94,7 +110,8 @@ module _ (spec : SupplySpec) (horizon : ℕ) (times counts : List ℕ) (t : ℕ)
   needed_refutes i listed near few may =
       let e = are_of.each i listed in
       let w : t + 1 - (time_at needed i).time ≡ t + 1 - get_or times (time_at needed i).before 0 = ap (λ (w : ℕ). t + 1 - w) e in
-      time_refutes spec horizon times counts t is promise past (time_at needed i).before (are_of.below i listed) (omega (arith, e)) (omega (arith, few, ap (λ (v : ℕ). get_or counts v 0) w)) may
+      time_refutes spec horizon times counts t is promise past (time_at needed i).before (are_of.below i listed)
+      (omega (arith, e)) (omega (arith, few, ap (λ (v : ℕ). get_or counts v 0) w)) may
 
 -- one time more, which follows from an earlier one
 pub times_same : (times : List ℕ) (needed : List PromisedTime) (k : ℕ) → AreNeededTimesBelow times k needed → (i : ℕ) → IsImplied times k i →
@@ -109,7 +126,8 @@ times_same times needed k are i implied = record {
   ascending = are.ascending;
 }
 
-module _ (times : List ℕ) (needed : List PromisedTime) (k : ℕ) (are : AreNeededTimesBelow times k needed) (x : PromisedTime) (is_before : x.before ≡ k) (is_time : x.time ≡ get_or times k 0) where
+module _ (times : List ℕ) (needed : List PromisedTime) (k : ℕ) (are : AreNeededTimesBelow times k needed) (x : PromisedTime)
+    (is_before : x.before ≡ k) (is_time : x.time ≡ get_or times k 0) where
   abbrev more : List PromisedTime
   more = needed ++ x ∷ []
 
@@ -125,7 +143,12 @@ module _ (times : List ℕ) (needed : List PromisedTime) (k : ℕ) (are : AreNee
       get_or-append_right needed (x ∷ []) (length needed) (length needed) no_time refl (omega arith) ∙ ap (λ (w : ℕ). get_or (x ∷ []) w no_time) none
 
   old_listed : (n : ℕ) → IsListedTime needed n → IsListedTime more n
-  old_listed n at = record { place = at.place; listed = omega (arith, count, at.listed); before = ap (λ (d : PromisedTime). d.before) (old_at at.place at.listed) ∙ at.before }
+  old_listed n at = record {
+    place = at.place;
+    listed = omega (arith, count, at.listed);
+    before =
+        ap (λ (d : PromisedTime). d.before) (old_at at.place at.listed) ∙ at.before;
+  }
 
   new_listed : IsListedTime more k
   new_listed = record { place = length needed; listed = omega (arith, count); before = ap (λ (d : PromisedTime). d.before) new_at ∙ is_before }
@@ -146,10 +169,22 @@ module _ (times : List ℕ) (needed : List PromisedTime) (k : ℕ) (are : AreNee
     below = each_of (λ d. d.before < k + 1) (λ i h. omega (arith, are.below i h)) (omega (arith, is_before));
     each = each_of (λ d. d.time ≡ get_or times d.before 0) are.each (omega (arith, is_time, ap (λ (w : ℕ). get_or times w 0) is_before));
     ascending = λ i n h l. elim (cases_lt n (length needed)) [
-      | inl old ↦ omega (arith, are.ascending i n h old, ap (λ (d : PromisedTime). d.before) (old_at n old), ap (λ (d : PromisedTime). d.before) (old_at i (omega arith)))
+      | inl old ↦ omega (
+        arith,
+        are.ascending i n h old,
+        ap (λ (d : PromisedTime). d.before) (old_at n old),
+        ap (λ (d : PromisedTime). d.before) (old_at i (omega arith)),
+      )
       | inr new ↦
           let e : n ≡ length needed = omega (arith, count) in
-          omega (arith, are.below i (omega arith), ap (λ (d : PromisedTime). d.before) (old_at i (omega arith)), ap (λ (w : ℕ). (time_at more w).before) e, ap (λ (d : PromisedTime). d.before) new_at, is_before)
+          omega (
+            arith,
+            are.below i (omega arith),
+            ap (λ (d : PromisedTime). d.before) (old_at i (omega arith)),
+            ap (λ (w : ℕ). (time_at more w).before) e,
+            ap (λ (d : PromisedTime). d.before) new_at,
+            is_before,
+          )
     ];
   }
 

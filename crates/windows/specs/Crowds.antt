@@ -1,5 +1,6 @@
 -- The first crowded job of a run.
-use Rattle.std.specs.Prelude.{◌≡◌, ℕ, ◌+◌, ◌-◌, ◌==◌, ◌<◌, ◌≤◌, ◌⊎◌, ◌&&◌, ◌||◌, List, Bool, true, cond, length, map, filter, nat_le, nat_lt, slice_index, Option, Some, None}
+use Rattle.std.specs.Prelude.{◌≡◌, ℕ, ◌+◌, ◌-◌, ◌==◌, ◌<◌, ◌≤◌, ◌⊎◌, ◌&&◌, ◌||◌, List, Bool, true, cond, length, map, filter, nat_le, nat_lt}
+use Rattle.std.specs.Prelude.{slice_index, Option, Some, None}
 use Rattle.std.specs.List.Sorted.{IsNonDecreasing}
 use Rattle.lists.specs.Searches.{IsLeast}
 use Rattle.curve.specs.CurveValue.{Curve}

@@ -16,7 +16,8 @@ pub loop-k-preserved : goal.loop-k-preserved
 loop-k-preserved c =
     let run = c.args.run.now in
     let k = c.loop-k.k in
-    let job : c.index-as_slice-k.result ≡ job_at run k = job_read run c.as_slice.result.now k c.index-as_slice-k.result (omega arith) c.as_slice.ensures c.index-as_slice-k.is in
+    let job : c.index-as_slice-k.result ≡ job_at run k = job_read run c.as_slice.result.now k c.index-as_slice-k.result
+    (omega arith) c.as_slice.ensures c.index-as_slice-k.is in
     let arrival : arrival_by c.index-as_slice-k.result.arrival c.index-as_slice-k.result.release k ≡ arrival_of run k = cc in
     subst (AreFirstArrivals run (k + 1)) (sym c.in_ok-push.ensures.items) (arrivals_more run k c.loop-k.arrivals.items _ arrival c.loop-k.invariant)
 

@@ -18,4 +18,5 @@ returns-in-None c = λ k b h.
 pub returns-in-Some : goal.returns-in-Some
 returns-in-Some c =
     let idle : tick_at c.args.run.now c.args.t ≡ Idle = cc in
-    first_like (λ k. is_pending c.args.run.now k c.args.t) (is_idle_broken c.args.run.now c.args.t) (length c.args.run.now.jobs) _ (λ k. idle_is c.args.run.now c.args.t k idle) c.first_pending.ensures
+    first_like (λ k. is_pending c.args.run.now k c.args.t) (is_idle_broken c.args.run.now c.args.t) (length c.args.run.now.jobs) _
+    (λ k. idle_is c.args.run.now c.args.t k idle) c.first_pending.ensures

@@ -14,7 +14,8 @@ loop-t-preserved g c = record {
 }
 
 pub returns-in-Some : goal.returns-in-Some
-returns-in-Some g c = place_here (is_idle_broken c.args.run.now) c.args.run.now c.loop-t.t c.in-Some.job (omega arith) c.loop-t.invariant.before (rw c.in-Some.is at c.idle_job.ensures)
+returns-in-Some g c = place_here (is_idle_broken c.args.run.now) c.args.run.now c.loop-t.t c.in-Some.job
+    (omega arith) c.loop-t.invariant.before (rw c.in-Some.is at c.idle_job.ensures)
 
 pub returns : goal.returns
 returns g c = λ t b. c.loop-t.invariant.before t (omega arith)

@@ -10,7 +10,8 @@ use Rattle.audit.proofs.PlaceFacts.{first_like, urgent_is, uncut_is, no_run_is}
 use Rattle.audit.proofs.priorities.overtaken_job.Goals as goal
 
 pub returns-in_default : goal.returns-in_default
-returns-in_default g c = λ k b h. both_ways _ (no_run_is g.P.Policy.meaning g.M.Preemption.cuts c.args.sheet.now c.args.run.now c.args.t k (λ n e. c.in_default.not-Runs n (cc))) h
+returns-in_default g c = λ k b h. both_ways _
+    (no_run_is g.P.Policy.meaning g.M.Preemption.cuts c.args.sheet.now c.args.run.now c.args.t k (λ n e. c.in_default.not-Runs n (cc))) h
 
 pub returns-then-not-can_cut_job : goal.returns-then-not-can_cut_job
 returns-then-not-can_cut_job g c = λ n b h.
@@ -33,7 +34,8 @@ returns g c =
     let runs : tick_at run c.args.t ≡ Runs k = cc in
     let listed = c.requires.small.named c.args.t k runs in
     let cut = cut_read m sheet run c.args.t k (get_or c.args.served.now k 0) c.can_cut_job.result c.can_cut_job.ensures (c.requires.served.each k listed) in
-    let job : c.index-as_slice-k.result ≡ job_at run k = job_read run c.as_slice-2.result.now k c.index-as_slice-k.result listed c.as_slice-2.ensures c.index-as_slice-k.is in
+    let job : c.index-as_slice-k.result ≡ job_at run k =
+    job_read run c.as_slice-2.result.now k c.index-as_slice-k.result listed c.as_slice-2.ensures c.index-as_slice-k.is in
     let key : c.key-key.result ≡ p.key sheet (job_at run k) = c.key-key.ensures ∙ ap (λ (j : Job). p.key sheet j) job in
     first_like (is_urgent_by p sheet run c.key-key.result c.args.t) (is_priority_broken p m sheet run c.args.t) (length run.jobs) _
     (λ n. urgent_is p m sheet run c.args.t k n c.key-key.result runs (cut ∙ c.if-not-can_cut_job.false) key) c.urgent_job.ensures

@@ -13,4 +13,5 @@ loop-k-init c = record {
 pub returns : goal.returns
 returns c =
     let e : c.loop-k.k ≡ length c.args.run.now.jobs = omega (arith, c.loop-k.auto.k-end) in
-    all_seen c.args.run.now c.args.count c.loop-k.seen.items c.loop-k.invariant.count (subst (λ n. AreSeen c.args.run.now n c.loop-k.seen.items) e c.loop-k.invariant.seen)
+    all_seen c.args.run.now c.args.count c.loop-k.seen.items c.loop-k.invariant.count
+    (subst (λ n. AreSeen c.args.run.now n c.loop-k.seen.items) e c.loop-k.invariant.seen)

@@ -6,4 +6,5 @@ use Rattle.audit.proofs.ticks.first_segment.Goals as goal
 
 pub returns : goal.returns
 unfolding segment_in
-returns g c = placed rule.Segment (is_segment_broken g.M.Preemption.cuts c.args.sheet.now c.args.run.now) c.args.run.now _ _ c.in_ok-place.ensures c.fault_of.ensures
+returns g c = placed rule.Segment (is_segment_broken g.M.Preemption.cuts c.args.sheet.now c.args.run.now) c.args.run.now _ _
+    c.in_ok-place.ensures c.fault_of.ensures

@@ -6,7 +6,8 @@ use Rattle.audit.proofs.undone.next_place.Goals as goal
 
 pub loop-i-preserved : goal.loop-i-preserved
 loop-i-preserved c =
-    past_more c.args.run.now c.args.served.now c.args.order.now c.args.o c.loop-i.i c.loop-i-test.true (λ left. both_ways c.is_left.result c.if-is_left.false (c.is_left.ensures.1 left)) c.loop-i.invariant
+    past_more c.args.run.now c.args.served.now c.args.order.now c.args.o c.loop-i.i c.loop-i-test.true
+    (λ left. both_ways c.is_left.result c.if-is_left.false (c.is_left.ensures.1 left)) c.loop-i.invariant
 
 pub returns : goal.returns
 returns c =

@@ -17,8 +17,10 @@ loop-at-preserved c =
     record {
       within = omega (arith, c.feed_line-len.ensures.first.within, ap length (take_rest bs i), length-drop i bs);
       stands = rw next (c.feed_line-len.ensures.stands b c.loop-at.invariant.stands);
-      so_far = so_far_next add_step add_step-quiet [] c.loop-at.entries.items c.add_step.new.entries.items c.feed_line-len.result.1 b (take (i + n) bs) (take n rest) next
-          (line_few rest n c.feed_line-len.ensures.first) c.in_ok-add_step.ensures c.loop-at.invariant.so_far (λ more cert p. c.feed_line-len.ensures.says b more cert c.loop-at.invariant.stands p);
+      so_far = so_far_next add_step add_step-quiet [] c.loop-at.entries.items c.add_step.new.entries.items
+          c.feed_line-len.result.1 b (take (i + n) bs) (take n rest) next
+          (line_few rest n c.feed_line-len.ensures.first) c.in_ok-add_step.ensures c.loop-at.invariant.so_far
+          (λ more cert p. c.feed_line-len.ensures.says b more cert c.loop-at.invariant.stands p);
     }
 
 pub returns-then-is_over-clause-found : goal.returns-then-is_over-clause-found
@@ -26,7 +28,8 @@ returns-then-is_over-clause-found c =
     let bs = c.args.bytes.now in
     let b = take c.loop-at.at bs in
     let p = (c.is_over.ensures b c.loop-at.invariant.stands).0 c.if-is_over.true in
-    rw c.new.ensures (found_all c.version.result c.loop-at.entries.items b bs p.0 (take_all c.loop-at.at bs (omega arith)) p.1 (c.version.ensures b p.0 c.loop-at.invariant.stands p.1) c.loop-at.invariant.so_far)
+    rw c.new.ensures (found_all c.version.result c.loop-at.entries.items b bs p.0 (take_all c.loop-at.at bs (omega arith)) p.1
+    (c.version.ensures b p.0 c.loop-at.invariant.stands p.1) c.loop-at.invariant.so_far)
 
 pub returns-then-is_over-clause-gives : goal.returns-then-is_over-clause-gives
 returns-then-is_over-clause-gives c = cert_of_text-reading _ _ (returns-then-is_over-clause-found c)
@@ -36,4 +39,6 @@ returns-else-is_over-clause-gives c =
     let bs = c.args.bytes.now in
     let b = take c.loop-at.at bs in
     let stands = c.loop-at.invariant.stands in
-    λ no_memory. cert_of_text-reading bs _ (refused_all b bs c.is_over.result c.line.result (take_all c.loop-at.at bs (omega arith)) (c.is_over.ensures b stands) c.if-is_over.false (c.line.ensures b stands))
+    λ no_memory. cert_of_text-reading bs _
+    (refused_all b bs c.is_over.result c.line.result (take_all c.loop-at.at bs (omega arith))
+    (c.is_over.ensures b stands) c.if-is_over.false (c.line.ensures b stands))

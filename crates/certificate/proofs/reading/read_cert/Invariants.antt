@@ -11,7 +11,8 @@ abbrev pub invariant-loop-at : goal.invariant-loop-at
 invariant-loop-at l = record {
   within : l.at ≤ length l.bytes;
   stands : StandsFor l.lines (take l.at l.bytes);
-  so_far : (more : List ℕ) (c : Cert) → Parses cert_format (take l.at l.bytes ++ more) c → l.entries.items ≡ entries_of (take (newlines (take l.at l.bytes)) (steps_of c));
+  so_far : (more : List ℕ) (c : Cert) → Parses cert_format (take l.at l.bytes ++ more) c →
+      l.entries.items ≡ entries_of (take (newlines (take l.at l.bytes)) (steps_of c));
 }
 
 abbrev pub decreases-loop-at : goal.decreases-loop-at

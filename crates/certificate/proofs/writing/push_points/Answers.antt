@@ -10,4 +10,5 @@ loop-at-preserved c =
     let i = c.loop-at.at in
     let p = get_or ps i (point_of 0 0) in
     let here = c.loop-at-test.true in
-    points_pushed ps c.args.terms.now i p c.args.out.now.items c.loop-at.out.items c.push_point.new.out.items here (get_or_default ps i (point_of 0 0) p here) c.loop-at.invariant c.in_ok-push_point.ensures
+    points_pushed ps c.args.terms.now i p c.args.out.now.items c.loop-at.out.items c.push_point.new.out.items here
+    (get_or_default ps i (point_of 0 0) p here) c.loop-at.invariant c.in_ok-push_point.ensures

@@ -4,4 +4,5 @@ use Rattle.certificate.proofs.writing.write_cert.Given as goal
 
 abbrev pub invariant-loop-task : goal.invariant-loop-task
 invariant-loop-task l =
-    l.out.items ++ entries_text l.task (drop l.task l.cert.entries) ≡ head_of l.cert.version ++ (codes "tasks " ++ (decimal (length l.cert.entries) ++ (codes "\n" ++ entries_text 0 l.cert.entries)))
+    l.out.items ++ entries_text l.task (drop l.task l.cert.entries) ≡ head_of l.cert.version ++
+    (codes "tasks " ++ (decimal (length l.cert.entries) ++ (codes "\n" ++ entries_text 0 l.cert.entries)))

@@ -15,7 +15,8 @@ returns-then-come-eq0 c = record {
 pub returns : goal.returns
 returns c =
     let split = c.requires.come in
-    let back = back_last c.args.steps.now c.args.begun c.args.come (record { time = 0; value = 0 }) (rises_from_test 0 0 c.args.steps.now c.requires.rising) split c.if-come-eq0.false in
+    let back = back_last c.args.steps.now c.args.begun c.args.come (record { time = 0; value = 0 })
+    (rises_from_test 0 0 c.args.steps.now c.requires.rising) split c.if-come-eq0.false in
     let value = value_last c.args.steps.now c.args.begun c.args.come (record { time = 0; value = 0 }) split c.if-come-eq0.false in
     record {
       value = sym value;

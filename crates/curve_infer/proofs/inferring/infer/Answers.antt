@@ -10,7 +10,8 @@ use Rattle.curve_infer.proofs.inferring.infer.Goals as goal
 use Rattle.curve_infer.proofs.inferring.infer.Goals.{then-time-next+in_ok-push, else-time-next}
 
 -- once all times were taken, all steps are there
-all_steps : (trace times : List ℕ) → IsTrace trace → (h : ℕ) → 1 ≤ h → h ≤ 1000000000 → (n time : ℕ) (steps : List Step) → times ≡ trace → length times ≤ n → IsNextRise times (n + 1) h time → steps ≡ steps_to (most_of times) (time - 1) → steps ≡ steps_to (most_of trace) h
+all_steps : (trace times : List ℕ) → IsTrace trace → (h : ℕ) → 1 ≤ h → h ≤ 1000000000 → (n time : ℕ) (steps : List Step) →
+    times ≡ trace → length times ≤ n → IsNextRise times (n + 1) h time → steps ≡ steps_to (most_of times) (time - 1) → steps ≡ steps_to (most_of trace) h
 all_steps trace times ok h low high n time steps same all rise is =
     let valid = subst IsTrace (sym same) ok in
     let last = last_rise times valid h low high (n + 1) time (omega (arith, all)) rise in
@@ -39,9 +40,15 @@ loop-n-preserved c =
     elim c.if-time-next.branch [
       | then-time-next+in_ok-push w ↦
           let go = steps_go times ok h c.requires.low c.requires.high (l.n + 1) l.time next l.invariant.low l.invariant.rise there w.if-time-next.true in
-          rw w.steps-is (record { low = omega (arith, order, l.invariant.low); steps = w.in_ok-push.ensures.items ∙ ap (λ (all : List Step). all ++ (record { time = l.time; value = l.n + 1 } ∷ [])) l.invariant.steps ∙ sym go; rise = there })
+          rw w.steps-is (record {
+            low = omega (arith, order, l.invariant.low);
+            steps = w.in_ok-push.ensures.items ∙
+                ap (λ (all : List Step). all ++ (record { time = l.time; value = l.n + 1 } ∷ [])) l.invariant.steps ∙ sym go;
+            rise = there;
+          })
       | else-time-next w ↦
-          let stay = steps_stay times ok h c.requires.low c.requires.high (l.n + 1) l.time next l.invariant.rise there (λ less. omega (arith, less, w.if-time-next.false)) in
+          let stay = steps_stay times ok h c.requires.low c.requires.high (l.n + 1) l.time next l.invariant.rise there
+          (λ less. omega (arith, less, w.if-time-next.false)) in
           rw w.steps-is (record { low = omega (arith, order, l.invariant.low); steps = l.invariant.steps ∙ sym stay; rise = there })
     ]
 
@@ -51,8 +58,10 @@ unreachable-requires c =
     let ok = c.times-times.ensures.valid in
     let h = c.args.horizon in
     let same = c.times-times.ensures.times in
-    let steps = all_steps trace c.times-times.result.now ok h c.requires.low c.requires.high c.loop-n.n c.loop-n.time c.loop-n.steps.items same c.loop-n-test.false c.loop-n.invariant.rise c.loop-n.invariant.steps in
-    let valid : IsCurve (record { horizon = h; steps = c.loop-n.steps.items }) = subst (λ (all : List Step). IsCurve (record { horizon = h; steps = all })) (sym steps) (inferred_valid trace ok h c.requires.low c.requires.high) in
+    let steps = all_steps trace c.times-times.result.now ok h c.requires.low c.requires.high c.loop-n.n c.loop-n.time
+    c.loop-n.steps.items same c.loop-n-test.false c.loop-n.invariant.rise c.loop-n.invariant.steps in
+    let valid : IsCurve (record { horizon = h; steps = c.loop-n.steps.items }) =
+    subst (λ (all : List Step). IsCurve (record { horizon = h; steps = all })) (sym steps) (inferred_valid trace ok h c.requires.low c.requires.high) in
     let bad = c.in-Err.ensures.valid.1 valid in
     absurd (cc)
 
@@ -62,8 +71,10 @@ returns-clause-defined c =
     let ok = c.times-times.ensures.valid in
     let h = c.args.horizon in
     let same = c.times-times.ensures.times in
-    let steps = all_steps trace c.times-times.result.now ok h c.requires.low c.requires.high c.loop-n.n c.loop-n.time c.loop-n.steps.items same c.loop-n-test.false c.loop-n.invariant.rise c.loop-n.invariant.steps in
-    let passes : prefix_check_of h (steps_to (most_of trace) h) ≡ Ok (inferred_curve trace h) = curve_passes (inferred_curve trace h) (inferred_valid trace ok h c.requires.low c.requires.high) in
+    let steps = all_steps trace c.times-times.result.now ok h c.requires.low c.requires.high c.loop-n.n c.loop-n.time
+    c.loop-n.steps.items same c.loop-n-test.false c.loop-n.invariant.rise c.loop-n.invariant.steps in
+    let passes : prefix_check_of h (steps_to (most_of trace) h) ≡ Ok (inferred_curve trace h) =
+    curve_passes (inferred_curve trace h) (inferred_valid trace ok h c.requires.low c.requires.high) in
     let checked : Ok c.in-Ok.prefix ≡ prefix_check_of h c.loop-n.steps.items = c.in-Ok.ensures.checked in
     let both : Ok c.in-Ok.prefix ≡ Ok (inferred_curve trace h) = checked ∙ ap (prefix_check_of h) steps ∙ passes in
     cc
@@ -71,14 +82,17 @@ returns-clause-defined c =
 pub returns-clause-respected : goal.returns-clause-respected
 returns-clause-respected c =
     let ok = c.times-times.ensures.valid in
-    subst (λ (curve : Curve). Respects c.args.trace.now curve) (sym (returns-clause-defined c)) (respected c.args.trace.now ok c.args.horizon c.requires.low c.requires.high)
+    subst (λ (curve : Curve). Respects c.args.trace.now curve) (sym (returns-clause-defined c))
+    (respected c.args.trace.now ok c.args.horizon c.requires.low c.requires.high)
 
 pub returns-clause-least : goal.returns-clause-least
 returns-clause-least c =
     let ok = c.times-times.ensures.valid in
-    subst (λ (curve : Curve). IsLeastCurve c.args.trace.now curve) (sym (returns-clause-defined c)) (least c.args.trace.now ok c.args.horizon c.requires.low c.requires.high)
+    subst (λ (curve : Curve). IsLeastCurve c.args.trace.now curve) (sym (returns-clause-defined c))
+    (least c.args.trace.now ok c.args.horizon c.requires.low c.requires.high)
 
 pub returns-clause-kept : goal.returns-clause-kept
 returns-clause-kept c =
     let ok = c.times-times.ensures.valid in
-    subst (λ (curve : Curve). KeepsCurves c.args.trace.now curve) (sym (returns-clause-defined c)) (kept c.args.trace.now ok c.args.horizon c.requires.low c.requires.high)
+    subst (λ (curve : Curve). KeepsCurves c.args.trace.now curve) (sym (returns-clause-defined c))
+    (kept c.args.trace.now ok c.args.horizon c.requires.low c.requires.high)

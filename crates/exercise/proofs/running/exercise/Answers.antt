@@ -26,12 +26,14 @@ simulate-requires-clause-stated c = whole c.args.seed c.args.tasks c.in_ok-sheet
 
 pub unreachable-requires-in-Err-Jobs : goal.unreachable-requires-in-Err-Jobs
 unreachable-requires-in-Err-Jobs c =
-    never_stopped c.args.seed c.args.tasks c.in_ok-sheet.sheet Jobs c.in_ok-sheet.ensures (c.exercise_succeeds.ensures c.args.seed c.args.tasks c.requires.some c.requires.few)
+    never_stopped c.args.seed c.args.tasks c.in_ok-sheet.sheet Jobs c.in_ok-sheet.ensures
+    (c.exercise_succeeds.ensures c.args.seed c.args.tasks c.requires.some c.requires.few)
     (rw c.in-Err-Jobs.field-0-is at c.in-Err-Jobs.ensures.exact)
 
 pub unreachable-requires-in-Err-Segments : goal.unreachable-requires-in-Err-Segments
 unreachable-requires-in-Err-Segments c =
-    never_stopped c.args.seed c.args.tasks c.in_ok-sheet.sheet Segments c.in_ok-sheet.ensures (c.exercise_succeeds.ensures c.args.seed c.args.tasks c.requires.some c.requires.few)
+    never_stopped c.args.seed c.args.tasks c.in_ok-sheet.sheet Segments c.in_ok-sheet.ensures
+    (c.exercise_succeeds.ensures c.args.seed c.args.tasks c.requires.some c.requires.few)
     (rw c.in-Err-Segments.field-0-is at c.in-Err-Segments.ensures.exact)
 
 pub audit-requires-clause-stated : goal.audit-requires-clause-stated

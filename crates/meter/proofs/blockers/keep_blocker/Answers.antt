@@ -9,5 +9,6 @@ returns-then-block_at-before g c =
     let m = g.M.Preemption.cuts in
     let sheet = c.args.sheet.now in
     let ok = c.len-valid.ensures.valid in
-    let same : block_of p m sheet c.args.i c.args.a c.args.before.task ≡ c.args.before.block = omega (arith, c.block_at.ensures.exact, c.if-block_at-before.true) in
+    let same : block_of p m sheet c.args.i c.args.a c.args.before.task ≡ c.args.before.block =
+    omega (arith, c.block_at.ensures.exact, c.if-block_at-before.true) in
     kept p m sheet ok (g.met.P.Policy.lawful sheet ok) c.args.i c.args.from c.args.a c.requires.i c.requires.order c.args.before c.requires.before same

@@ -7,7 +7,11 @@ use Rattle.meter.proofs.changes.next_other_change.Goals as goal
 pub stair-stair-requires : goal.stair-stair-requires
 stair-stair-requires g c =
     let lawful = g.met.P.Policy.lawful c.args.sheet.now c.task.ensures.valid in
-    omega (arith, c.cap_reach.ensures, reach_limited _ (lawful.cap_limited c.args.i c.args.o c.args.a c.requires.i c.requires.o c.requires.other c.requires.offset))
+    omega (
+      arith,
+      c.cap_reach.ensures,
+      reach_limited _ (lawful.cap_limited c.args.i c.args.o c.args.a c.requires.i c.requires.o c.requires.other c.requires.offset),
+    )
 
 pub returns : goal.returns
 returns g c =

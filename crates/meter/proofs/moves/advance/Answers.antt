@@ -6,7 +6,8 @@ pub loop-o-init : goal.loop-o-init
 loop-o-init g c =
     let p = g.P.Policy.meaning in
     let sheet = c.args.sheet.now in
-    recount_skipped p sheet c.args.i c.args.a c.args.b c.requires.order (omega (arith, c.requires.offset)) 0 _ _ _ (recount_started p sheet c.args.i c.args.a c.args.b _ c.requires.tracking c.requires.counted) c.next_from-o.ensures
+    recount_skipped p sheet c.args.i c.args.a c.args.b c.requires.order (omega (arith, c.requires.offset)) 0 _ _ _
+    (recount_started p sheet c.args.i c.args.a c.args.b _ c.requires.tracking c.requires.counted) c.next_from-o.ensures
 
 pub loop-o-preserved : goal.loop-o-preserved
 loop-o-preserved g c =

@@ -18,9 +18,12 @@ put-tracks-requires-clause-small g c =
     let places = c.args.tracks.now.places.items in
     let end = c.stair_to-end.result in
     let jitter : c.task-task.result.now.jitter ≡ (task_at sheet o).jitter = ap (λ (task : Task). task.jitter) c.task-task.ensures.task in
-    let stair : IsStair (task_at sheet o).curve end (c.args.x + (task_at sheet o).jitter) = subst (λ (task : Task). IsStair task.curve end (c.args.x + task.jitter)) c.task-task.ensures.task c.stair_to-end.ensures in
-    let before : c.index-before.result.now ≡ place_of places o = get_or_read places o c.index-before.result.now (omega (arith, c.requires.tracking.count, c.requires.o)) c.index-before.ensures no_place in
-    small_at sheet c.task-task.ensures.valid c.args.x o c.requires.end c.requires.o (omega (arith, jitter, c.task-task.ensures.jitter)) end stair c.index-before.result.now.count
+    let stair : IsStair (task_at sheet o).curve end (c.args.x + (task_at sheet o).jitter) =
+    subst (λ (task : Task). IsStair task.curve end (c.args.x + task.jitter)) c.task-task.ensures.task c.stair_to-end.ensures in
+    let before : c.index-before.result.now ≡ place_of places o =
+    get_or_read places o c.index-before.result.now (omega (arith, c.requires.tracking.count, c.requires.o)) c.index-before.ensures no_place in
+    small_at sheet c.task-task.ensures.valid c.args.x o c.requires.end c.requires.o
+    (omega (arith, jitter, c.task-task.ensures.jitter)) end stair c.index-before.result.now.count
     (omega (arith, ap (λ (s : Place). s.count) before, (c.requires.tracking.each o c.requires.o).near.count_high))
 
 pub returns : goal.returns
@@ -32,14 +35,30 @@ returns g c =
     let end = c.stair_to-end.result in
     let at : ℕ → Place = λ (n : ℕ). record { end = end; count = n } in
     let jitter : c.task-task.result.now.jitter ≡ (task_at sheet o).jitter = ap (λ (task : Task). task.jitter) c.task-task.ensures.task in
-    let stair : IsStair (task_at sheet o).curve end (c.args.x + (task_at sheet o).jitter) = subst (λ (task : Task). IsStair task.curve end (c.args.x + task.jitter)) c.task-task.ensures.task c.stair_to-end.ensures in
-    let before : c.index-before.result.now ≡ place_of t.places.items o = get_or_read t.places.items o c.index-before.result.now (omega (arith, c.requires.tracking.count, c.requires.o)) c.index-before.ensures no_place in
-    let new : Tracks = record { places = with_items t.places c.put-tracks.new.places; untils = c.set.new.self; froms = c.set-2.new.self; changes = t.changes; sum = c.put-tracks.result } in
+    let stair : IsStair (task_at sheet o).curve end (c.args.x + (task_at sheet o).jitter) =
+    subst (λ (task : Task). IsStair task.curve end (c.args.x + task.jitter)) c.task-task.ensures.task c.stair_to-end.ensures in
+    let before : c.index-before.result.now ≡ place_of t.places.items o = get_or_read t.places.items o c.index-before.result.now
+    (omega (arith, c.requires.tracking.count, c.requires.o)) c.index-before.ensures no_place in
+    let new : Tracks = record {
+      places = with_items t.places c.put-tracks.new.places;
+      untils = c.set.new.self;
+      froms =
+          c.set-2.new.self;
+      changes = t.changes;
+      sum = c.put-tracks.result;
+    } in
     let put = c.put-tracks.ensures.places in
     let items : new.places.items ≡ c.put-tracks.new.places =
-    with_items_is t.places c.put-tracks.new.places (omega (arith, ap (λ (ps : List Place). length ps) put, length-set c.deref_mut.result.now o (at c.index-before.result.now.count), c.deref_mut.ensures.len)) in
+    with_items_is t.places c.put-tracks.new.places
+    (omega (
+      arith,
+      ap (λ (ps : List Place). length ps) put,
+      length-set c.deref_mut.result.now o (at c.index-before.result.now.count),
+      c.deref_mut.ensures.len,
+    )) in
     end_moved p sheet c.args.i c.args.x o c.requires.end c.requires.o (omega (arith, jitter, c.task-task.ensures.jitter)) t new c.requires.tracking end stair
-    (items ∙ put ∙ ap (λ (ps : List Place). set ps o (at c.index-before.result.now.count)) c.deref_mut.ensures.value ∙ ap (λ (s : Place). set t.places.items o (at s.count)) before)
+    (items ∙ put ∙ ap (λ (ps : List Place). set ps o (at c.index-before.result.now.count)) c.deref_mut.ensures.value ∙
+    ap (λ (s : Place). set t.places.items o (at s.count)) before)
     (c.set.ensures ∙ ap (λ (j : ℕ). set t.untils o (end.until - j)) jitter)
     (c.set-2.ensures ∙ ap (λ (j : ℕ). set t.froms o (5000000000 + j - end.from)) jitter)
     refl

@@ -11,9 +11,12 @@ part-requires-clause-small g c =
     let o = c.args.o in
     let end = c.stair_to-end.result in
     let jitter : c.task-task.result.now.jitter ≡ (task_at sheet o).jitter = ap (λ (task : Task). task.jitter) c.task-task.ensures.task in
-    let here : IsStair (task_at sheet o).curve end (task_at sheet o).jitter = subst (λ (task : Task). IsStair task.curve end task.jitter) c.task-task.ensures.task c.stair_to-end.ensures in
-    let stair : IsStair (task_at sheet o).curve end (0 + (task_at sheet o).jitter) = subst (λ (d : ℕ). IsStair (task_at sheet o).curve end d) (omega arith) here in
-    small_at sheet c.task-task.ensures.valid 0 o (omega arith) c.requires.o (omega (arith, jitter, c.task-task.ensures.jitter)) end stair c.counting-counted.result.count c.counting-counted.ensures.bound
+    let here : IsStair (task_at sheet o).curve end (task_at sheet o).jitter =
+    subst (λ (task : Task). IsStair task.curve end task.jitter) c.task-task.ensures.task c.stair_to-end.ensures in
+    let stair : IsStair (task_at sheet o).curve end (0 + (task_at sheet o).jitter) =
+    subst (λ (d : ℕ). IsStair (task_at sheet o).curve end d) (omega arith) here in
+    small_at sheet c.task-task.ensures.valid 0 o (omega arith) c.requires.o (omega (arith, jitter, c.task-task.ensures.jitter))
+    end stair c.counting-counted.result.count c.counting-counted.ensures.bound
 
 pub returns-clause-settled : goal.returns-clause-settled
 returns-clause-settled g c =
@@ -24,9 +27,12 @@ returns-clause-settled g c =
     let end = c.stair_to-end.result in
     let counted = c.counting-counted.result in
     let jitter : c.task-task.result.now.jitter ≡ (task_at sheet o).jitter = ap (λ (task : Task). task.jitter) c.task-task.ensures.task in
-    let here : IsStair (task_at sheet o).curve end (task_at sheet o).jitter = subst (λ (task : Task). IsStair task.curve end task.jitter) c.task-task.ensures.task c.stair_to-end.ensures in
-    let stair : IsStair (task_at sheet o).curve end (0 + (task_at sheet o).jitter) = subst (λ (d : ℕ). IsStair (task_at sheet o).curve end d) (omega arith) here in
-    settled p sheet c.args.i o c.requires.o (omega (arith, jitter, c.task-task.ensures.jitter)) t c.requires.ready end stair counted.count counted.change c.counting-counted.ensures.bound c.counting-counted.ensures.counted _
+    let here : IsStair (task_at sheet o).curve end (task_at sheet o).jitter =
+    subst (λ (task : Task). IsStair task.curve end task.jitter) c.task-task.ensures.task c.stair_to-end.ensures in
+    let stair : IsStair (task_at sheet o).curve end (0 + (task_at sheet o).jitter) =
+    subst (λ (d : ℕ). IsStair (task_at sheet o).curve end d) (omega arith) here in
+    settled p sheet c.args.i o c.requires.o (omega (arith, jitter, c.task-task.ensures.jitter)) t c.requires.ready end stair
+    counted.count counted.change c.counting-counted.ensures.bound c.counting-counted.ensures.counted _
     refl
     (c.set.ensures ∙ ap (λ (j : ℕ). set t.untils o (end.until - j)) jitter)
     (c.set-2.ensures ∙ ap (λ (j : ℕ). set t.froms o (5000000000 + j - end.from)) jitter)

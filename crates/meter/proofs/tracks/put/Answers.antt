@@ -6,10 +6,16 @@ use Rattle.meter.proofs.tracks.put.Goals as goal
 
 pub part-requires-2-clause-small : goal.part-requires-2-clause-small
 part-requires-2-clause-small g c =
-    small (task_at c.args.sheet.now c.args.o) (c.len-valid.ensures.valid.each c.args.o c.requires.o) (place_of c.args.places.now c.args.o) (c.requires.near.each c.args.o c.requires.o)
+    small (task_at c.args.sheet.now c.args.o) (c.len-valid.ensures.valid.each c.args.o c.requires.o)
+    (place_of c.args.places.now c.args.o) (c.requires.near.each c.args.o c.requires.o)
 
 pub overflow_add-whole : goal.overflow_add-whole
-overflow_add-whole g c = omega (arith, c.part.ensures.bound, c.requires.sum, sum_high g.P.Policy.meaning c.args.sheet.now c.len-valid.ensures.valid c.args.i c.args.places.now c.requires.near)
+overflow_add-whole g c = omega (
+  arith,
+  c.part.ensures.bound,
+  c.requires.sum,
+  sum_high g.P.Policy.meaning c.args.sheet.now c.len-valid.ensures.valid c.args.i c.args.places.now c.requires.near,
+)
 
 pub overflow_sub-whole : goal.overflow_sub-whole
 overflow_sub-whole g c =

@@ -8,7 +8,8 @@ use Rattle.poet_io.proofs.eater.pour.Goals as goal
 
 pub returns-in_err-open-clause-poured : goal.returns-in_err-open-clause-poured
 returns-in_err-open-clause-poured g c =
-    poured_nothing g.E.Eater.stands c.args.eater.now c.args.name.now c.args.limit _ _ _ _ _ _ _ _ (search rules) c.in_err-open.ensures.logged (record { cause = c.in_err-open.ensures.cause.cause; closed = c.in_err-open.ensures.opened })
+    poured_nothing g.E.Eater.stands c.args.eater.now c.args.name.now c.args.limit _ _ _ _ _ _ _ _
+    (search rules) c.in_err-open.ensures.logged (record { cause = c.in_err-open.ensures.cause.cause; closed = c.in_err-open.ensures.opened })
 
 pub loop-count-preserved : goal.loop-count-preserved
 loop-count-preserved g c =

@@ -12,7 +12,8 @@ loop-i-preserved c =
     let entry : e ≡ get_or c.args.cert.now.entries c.loop-i.i e = rw c.as_slice.ensures at c.index-as_slice-i.is in
     let made : view c.in_ok-row_value.field-0 ≡ row_data (task_at c.args.sheet.now c.loop-i.i, get_or c.args.cert.now.entries c.loop-i.i e) =
     rw (← entry, ← c.task.ensures.task) c.in_ok-row_value.ensures in
-    next_values view row_data c.loop-i.values.items c.push.new.self.items c.in_ok-row_value.field-0 c.args.sheet.now.tasks c.args.cert.now.entries c.loop-i.i e c.requires lt
+    next_values view row_data c.loop-i.values.items c.push.new.self.items c.in_ok-row_value.field-0 c.args.sheet.now.tasks
+    c.args.cert.now.entries c.loop-i.i e c.requires lt
     c.loop-i.invariant c.in_ok-push.ensures.items made
 
 pub returns : goal.returns

@@ -10,10 +10,19 @@ loop-i-preserved c =
     let lt : c.loop-i.i < length c.args.sheet.now.tasks = omega arith in
     let e = c.index-as_slice-i.result in
     let entry : e ≡ get_or c.args.cert.now.entries c.loop-i.i e = rw c.as_slice.ensures at c.index-as_slice-i.is in
-    let told : is_met (task_at c.args.sheet.now c.loop-i.i, get_or c.args.cert.now.entries c.loop-i.i e) ≡ c.is_met-late.result = rw (← entry, ← c.task.ensures.task) (sym c.is_met-late.ensures) in
+    let told : is_met (task_at c.args.sheet.now c.loop-i.i, get_or c.args.cert.now.entries c.loop-i.i e) ≡ c.is_met-late.result =
+    rw (← entry, ← c.task.ensures.task) (sym c.is_met-late.ensures) in
     elim c.if-late.branch [
-      | then-late w ↦ record { few = omega arith; so_far = omega (arith, one_more_missed c.args.sheet.now.tasks c.args.cert.now.entries c.loop-i.i e c.requires lt (told ∙ w.if-late.true)) }
-      | else-late w ↦ record { few = omega arith; so_far = omega (arith, no_more_missed c.args.sheet.now.tasks c.args.cert.now.entries c.loop-i.i e c.requires lt (told ∙ w.if-late.false)) }
+      | then-late w ↦ record {
+        few = omega arith;
+        so_far =
+            omega (arith, one_more_missed c.args.sheet.now.tasks c.args.cert.now.entries c.loop-i.i e c.requires lt (told ∙ w.if-late.true));
+      }
+      | else-late w ↦ record {
+        few = omega arith;
+        so_far =
+            omega (arith, no_more_missed c.args.sheet.now.tasks c.args.cert.now.entries c.loop-i.i e c.requires lt (told ∙ w.if-late.false));
+      }
     ]
 
 pub returns : goal.returns

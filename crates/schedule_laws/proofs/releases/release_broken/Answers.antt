@@ -6,7 +6,9 @@ pub returns-then-not-is_timely : goal.returns-then-not-is_timely
 returns-then-not-is_timely c = sym (untimely_breaks c.args.sheet.now c.args.run.now c.args.k (sym c.is_timely.ensures ∙ c.if-not-is_timely.true))
 
 pub returns-then-is_overtaken : goal.returns-then-is_overtaken
-returns-then-is_overtaken c = sym (overtaken_breaks c.args.sheet.now c.args.run.now c.args.k c.loop-n.n (omega arith) (sym c.is_overtaken.ensures ∙ c.if-is_overtaken.true))
+returns-then-is_overtaken c = sym (overtaken_breaks c.args.sheet.now c.args.run.now c.args.k c.loop-n.n (omega arith)
+    (sym c.is_overtaken.ensures ∙ c.if-is_overtaken.true))
 
 pub returns : goal.returns
-returns c = sym (never_overtaken c.args.sheet.now c.args.run.now c.args.k (sym c.is_timely.ensures ∙ c.if-not-is_timely.false) (λ n b. c.loop-n.invariant n (omega arith)))
+returns c = sym (never_overtaken c.args.sheet.now c.args.run.now c.args.k (sym c.is_timely.ensures ∙ c.if-not-is_timely.false)
+    (λ n b. c.loop-n.invariant n (omega arith)))

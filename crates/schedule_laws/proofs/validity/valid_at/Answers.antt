@@ -10,4 +10,5 @@ use Rattle.schedule_laws.proofs.validity.valid_at.Goals as goal
 pub returns-else-k-len : goal.returns-else-k-len
 returns-else-k-len c =
     let is : tick_at c.args.run.now c.args.t ≡ Runs c.in-Runs.k = cc in
-    le-ltb c.in-Runs.k c.len.result (omega arith) ∙ sym (ap (may_be_at c.args.run.now c.args.t) is ∙ idle_job c.args.run.now c.in-Runs.k c.args.t (λ waits. omega (arith, waits.listed)))
+    le-ltb c.in-Runs.k c.len.result (omega arith) ∙
+    sym (ap (may_be_at c.args.run.now c.args.t) is ∙ idle_job c.args.run.now c.in-Runs.k c.args.t (λ waits. omega (arith, waits.listed)))

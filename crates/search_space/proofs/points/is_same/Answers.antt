@@ -7,4 +7,5 @@ use Rattle.search_space.proofs.points.is_same.Goals as goal
 pub returns-then-compared : goal.returns-then-compared
 returns-then-compared g c =
     let number = compared_of g.P.Policy.meaning c.args.sheet.now c.args.i in
-    sym (all_broken (λ o. number c.args.a o == number c.args.b o) (length c.args.sheet.now.tasks) c.loop-o.o (omega arith) (ne_eqb _ _ (λ e. c.if-compared.true (omega (arith, e)))))
+    sym (all_broken (λ o. number c.args.a o == number c.args.b o) (length c.args.sheet.now.tasks) c.loop-o.o (omega arith)
+    (ne_eqb _ _ (λ e. c.if-compared.true (omega (arith, e)))))

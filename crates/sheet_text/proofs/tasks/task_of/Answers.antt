@@ -17,5 +17,16 @@ returns-clause-rule c =
     let fits : SFits w64 numbers.point = search rules in
     let same_point : to_z w64 (of_z w64 numbers.point) ≡ numbers.point = omega (arith, ints) in
     let near : is_priority_point (to_z w64 (of_z w64 numbers.point)) ≡ true = rw same_point told.point in
-    let task : Task = record { name = c.new.result; cost = numbers.cost; deadline = numbers.deadline; priority = numbers.priority; jitter = numbers.jitter; point = to_z w64 (of_z w64 numbers.point); curve = c.in_ok-curve.curve; cut = c.in_ok-cut.cut } in
-    task_rule_from c.args.n (map string_bytes c.args.names.now.keys) task plain fresh told.cost told.deadline told.priority told.jitter near c.in_ok-cut.ensures.valid
+    let task : Task = record {
+      name = c.new.result;
+      cost = numbers.cost;
+      deadline = numbers.deadline;
+      priority =
+          numbers.priority;
+      jitter = numbers.jitter;
+      point = to_z w64 (of_z w64 numbers.point);
+      curve = c.in_ok-curve.curve;
+      cut = c.in_ok-cut.cut;
+    } in
+    task_rule_from c.args.n (map string_bytes c.args.names.now.keys) task plain fresh told.cost told.deadline told.priority
+    told.jitter near c.in_ok-cut.ensures.valid

@@ -17,5 +17,6 @@ items-preserved c =
       named = grind (arith, common_steps);
       rules = rw pushed (next_rules before names c.len-n.result task c.items.invariant.named c.items.invariant.rules count told.rule);
       curves = rw pushed (next_curves before task c.items.invariant.curves told.curve);
-      goes_on = rw pushed (next_goes_on c.args.policy before names c.len-n.result c.items.item-index c.args.items.now task c.item-item.result c.items.invariant c.items-test.true c.item-item.is count told.gives);
+      goes_on = rw pushed (next_goes_on c.args.policy before names c.len-n.result c.items.item-index c.args.items.now task
+          c.item-item.result c.items.invariant c.items-test.true c.item-item.is count told.gives);
     }

@@ -36,9 +36,11 @@ keep_job-requires-clause-new g c =
     let m = c.args.simulation.now in
     let load = c.in_ok-load.ensures.load in
     let len : c.len.result ≡ length m.jobs.items = search rules in
-    let last = last_is c.args.o (length sheet.tasks) (run_of m) m.releases.items c.index-last.result.now c.requires.kept.releases c.requires.task c.index-last.ensures in
+    let last = last_is c.args.o (length sheet.tasks) (run_of m) m.releases.items c.index-last.result.now c.requires.kept.releases
+    c.requires.task c.index-last.ensures in
     let is_task : IsTask (task_at sheet c.args.o) = c.task-task.ensures.valid.each c.args.o c.requires.task in
-    let law : IsLawfulCut g.M.Preemption.cuts (task_at sheet c.args.o) = g.met.M.Preemption.lawful (task_at sheet c.args.o) is_task (c.requires.served c.args.o c.requires.task) in
+    let law : IsLawfulCut g.M.Preemption.cuts (task_at sheet c.args.o) =
+    g.met.M.Preemption.lawful (task_at sheet c.args.o) is_task (c.requires.served c.args.o c.requires.task) in
     made_new c.args.mode g.M.Preemption.cuts sheet c.args.o c.args.t _ m.words m.jobs.items _
     (job_is c.args.mode c.task-task.result.now (task_at sheet c.args.o) c.args.o c.args.t _ _ m.words _ c.in_ok-load.load.cost
     c.draw_release-release.result c.new.result c.task-task.ensures.task load.cost (c.new.ensures ∙ load.segs) last c.in_ok-load.ensures.state
@@ -53,7 +55,8 @@ returns-clause-moment g c =
     let load = c.in_ok-load.ensures.load in
     let now = c.args.simulation.now in
     let m = moment_of now in
-    let last = last_is c.args.o (length w.sheet.tasks) (run_of now) now.releases.items c.index-last.result.now c.requires.kept.releases c.requires.task c.index-last.ensures in
+    let last = last_is c.args.o (length w.sheet.tasks) (run_of now) now.releases.items c.index-last.result.now
+    c.requires.kept.releases c.requires.task c.index-last.ensures in
     added w c.args.o c.args.t m _ (run_of c.keep_job.new.simulation) c.keep_job.new.simulation.words
     (job_is c.args.mode c.task-task.result.now (task_at w.sheet c.args.o) c.args.o c.args.t _ _ m.state _ c.in_ok-load.load.cost
     c.draw_release-release.result c.new.result c.task-task.ensures.task load.cost (c.new.ensures ∙ load.segs) last c.in_ok-load.ensures.state

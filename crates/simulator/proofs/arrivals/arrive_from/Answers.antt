@@ -33,5 +33,6 @@ returns-clause-shut g c =
     let are =
     list_is c.args.o (length c.args.sheet.now.tasks) (run_of m) m.arrivals.items c.as_slice-arrivals.result.now c.index.result.now
     c.in_ok-arrive_of.ensures.kept.arrivals c.requires.task c.index.ensures c.as_slice-arrivals.ensures.value in
-    λ v h l. shut_is c.args.sheet.now c.args.o (run_of m) c.as_slice-arrivals.result.now c.task.result.now (c.args.t + 1) c.next_opening.result c.task.ensures.task are
+    λ v h l. shut_is c.args.sheet.now c.args.o (run_of m) c.as_slice-arrivals.result.now c.task.result.now
+    (c.args.t + 1) c.next_opening.result c.task.ensures.task are
     c.next_opening.ensures v (omega (arith, h)) l

@@ -17,13 +17,15 @@ room-room-requires-clause-past g c =
     lawful_world w.policy w.cuts w.sheet w.mode valid (g.met.P.Policy.lawful w.sheet valid)
     (λ o b. g.met.M.Preemption.lawful (task_at w.sheet o) (valid.each o b) (c.requires.served o b))
     (λ o b. g.met.M.Tabled.tabled (task_at w.sheet o) (c.requires.served o b)) in
-    list_past w laws c.args.o c.args.t (run_of m) c.deref.result.now c.task.result.now c.requires.task (ap (λ (v : Moment). v.run) c.requires.stage) c.task.ensures.task
+    list_past w laws c.args.o c.args.t (run_of m) c.deref.result.now c.task.result.now c.requires.task
+    (ap (λ (v : Moment). v.run) c.requires.stage) c.task.ensures.task
     (list_is c.args.o (length w.sheet.tasks) (run_of m) m.arrivals.items c.deref.result.now c.index.result.now
     c.requires.kept.arrivals c.requires.task c.index.ensures c.deref.ensures.value)
 
 pub draw_count-n-requires : goal.draw_count-n-requires
 draw_count-n-requires g c =
-    let ok : IsCurve c.task.result.now.curve = subst (λ (v : Task). IsCurve v.curve) (sym c.task.ensures.task) (c.task.ensures.valid.each c.args.o c.requires.task).curve in
+    let ok : IsCurve c.task.result.now.curve = subst (λ (v : Task). IsCurve v.curve) (sym c.task.ensures.task)
+    (c.task.ensures.valid.each c.args.o c.requires.task).curve in
     omega (arith, c.room-room.ensures, allowance_small c.task.result.now.curve c.deref.result.now c.args.t ok)
 
 pub returns-clause-moment : goal.returns-clause-moment
@@ -33,7 +35,8 @@ returns-clause-moment g c =
     let are =
     list_is c.args.o (length w.sheet.tasks) (run_of m) m.arrivals.items c.deref.result.now c.index.result.now
     c.requires.kept.arrivals c.requires.task c.index.ensures c.deref.ensures.value in
-    let is_room = room_is w c.args.o c.args.t (moment_of m) c.deref.result.now c.task.result.now c.room-room.result c.task.ensures.task are c.room-room.ensures in
+    let is_room = room_is w c.args.o c.args.t (moment_of m) c.deref.result.now c.task.result.now c.room-room.result
+    c.task.ensures.task are c.room-room.ensures in
     let same =
     arrived_by w c.args.o c.args.t (moment_of m) c.room-room.result c.draw_count-n.result c.draw_count-n.new.words
     is_room c.draw_count-n.ensures.count c.draw_count-n.ensures.state in
@@ -46,7 +49,8 @@ returns-clause-refusal g c =
     let are =
     list_is c.args.o (length w.sheet.tasks) (run_of m) m.arrivals.items c.deref.result.now c.index.result.now
     c.requires.kept.arrivals c.requires.task c.index.ensures c.deref.ensures.value in
-    let is_room = room_is w c.args.o c.args.t (moment_of m) c.deref.result.now c.task.result.now c.room-room.result c.task.ensures.task are c.room-room.ensures in
+    let is_room = room_is w c.args.o c.args.t (moment_of m) c.deref.result.now c.task.result.now c.room-room.result
+    c.task.ensures.task are c.room-room.ensures in
     let same =
     arrived_by w c.args.o c.args.t (moment_of m) c.room-room.result c.draw_count-n.result c.draw_count-n.new.words
     is_room c.draw_count-n.ensures.count c.draw_count-n.ensures.state in

@@ -19,8 +19,10 @@ returns-clause-kept g c =
     c.in_ok-push.ensures.items ∙ ap (λ (v : Vec ℕ). v.items ++ j.arrival ∷ [])
     (get_or_read m.arrivals.items j.task c.index_mut-list.result.now b c.index_mut-list.ensures.value c.push.new.self)
     in
-    kept_with g.P.Policy.meaning g.M.Preemption.cuts c.args.sheet.now j.arrival (run_of m) m.left.items m.queue m.coming m.inside m.segments m.arrivals.items m.releases.items m.counts.items c.requires.kept
+    kept_with g.P.Policy.meaning g.M.Preemption.cuts c.args.sheet.now j.arrival
+    (run_of m) m.left.items m.queue m.coming m.inside m.segments m.arrivals.items m.releases.items m.counts.items c.requires.kept
     j c.len-number.result c.rank_of-rank.result c.take_up.new.queue c.take_up.new.coming _ c.push-2.new.self.items (m.segments + c.len.result)
     (set m.arrivals.items j.task c.push.new.self) c.push.new.self (set m.releases.items j.task j.release)
     c.requires.new refl len c.rank_of-rank.ensures c.in_ok-take_up.ensures
-    (with_job_is (run_of m) c.push-3.new.self.items j c.in_ok-push-3.ensures.items) c.in_ok-push-2.ensures.items (ap (λ (n : ℕ). m.segments + n) c.len.ensures) refl longer refl
+    (with_job_is (run_of m) c.push-3.new.self.items j c.in_ok-push-3.ensures.items) c.in_ok-push-2.ensures.items
+    (ap (λ (n : ℕ). m.segments + n) c.len.ensures) refl longer refl

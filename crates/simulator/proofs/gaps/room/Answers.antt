@@ -11,7 +11,8 @@ returns-then-earliest-t c =
     c.earliest.ensures ∙ ap (λ (l : List Gap). earliest_by l c.args.arrivals.now) c.deref.ensures.value in
     let len : c.len.result ≡ length g.densest.items = search rules in
     sym
-    (room_one c.args.curve.now c.horizon-horizon.ensures.valid g.gaps.items g.densest.items g.window c.requires.gaps c.args.arrivals.now c.args.t c.requires.past
+    (room_one c.args.curve.now c.horizon-horizon.ensures.valid g.gaps.items g.densest.items g.window c.requires.gaps
+    c.args.arrivals.now c.args.t c.requires.past
     (omega (arith, c.at.ensures.alpha)) (omega (arith, is)) (omega (arith, len)))
 
 pub returns-else-earliest-t : goal.returns-else-earliest-t
@@ -20,5 +21,6 @@ returns-else-earliest-t c =
     let is : c.earliest.result ≡ earliest_by g.gaps.items c.args.arrivals.now =
     c.earliest.ensures ∙ ap (λ (l : List Gap). earliest_by l c.args.arrivals.now) c.deref.ensures.value in
     sym
-    (room_none c.args.curve.now c.horizon-horizon.ensures.valid g.gaps.items g.densest.items g.window c.requires.gaps c.args.arrivals.now c.args.t c.requires.past
+    (room_none c.args.curve.now c.horizon-horizon.ensures.valid g.gaps.items g.densest.items g.window c.requires.gaps
+    c.args.arrivals.now c.args.t c.requires.past
     (omega (arith, is)))

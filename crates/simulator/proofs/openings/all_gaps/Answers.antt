@@ -6,7 +6,8 @@ pub loop-o-preserved : goal.loop-o-preserved
 loop-o-preserved c = record {
   len = search rules;
   gaps =
-      gaps_pushed c.loop-o._o c.loop-o.list.items c.push.new.self.items c.in_ok-no_gaps.field-0 c.in_ok-push.ensures.items c.loop-o.invariant.len c.loop-o.invariant.gaps
+      gaps_pushed c.loop-o._o c.loop-o.list.items c.push.new.self.items c.in_ok-no_gaps.field-0 c.in_ok-push.ensures.items
+      c.loop-o.invariant.len c.loop-o.invariant.gaps
       c.in_ok-no_gaps.ensures;
 }
 

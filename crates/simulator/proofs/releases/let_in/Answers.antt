@@ -21,7 +21,8 @@ loop-due-init g c =
       moment = refl;
       kept =
           kept_waiting p g.M.Preemption.cuts sheet t t t (suc t) t (run_of m) m.left.items m.queue m.queue m.coming m.coming m.inside m.segments
-          m.arrivals.items m.releases.items m.counts.items kept (omega arith) (queue_begin p sheet m.jobs.items m.left.items t m.queue m.coming kept.jobs.waiting);
+          m.arrivals.items m.releases.items m.counts.items kept (omega arith)
+          (queue_begin p sheet m.jobs.items m.left.items t m.queue m.coming kept.jobs.waiting);
     }
 
 pub loop-due-preserved : goal.loop-due-preserved
@@ -34,7 +35,8 @@ loop-due-preserved g c =
     let kept = c.loop-due.invariant.kept in
     let out = c.in-Some.ensures.some in
     let own = kept.jobs.waiting.due d out.there in
-    let job : c.index-job.result.now ≡ job_at (run_of m) d.number = get_or_read m.jobs.items d.number c.index-job.result.now own.listed c.index-job.ensures no_job in
+    let job : c.index-job.result.now ≡ job_at (run_of m) d.number =
+    get_or_read m.jobs.items d.number c.index-job.result.now own.listed c.index-job.ensures no_job in
     let up : Updates rank_cmp m.queue c.insert.new.self (rank_of p sheet m.jobs.items d.number) (Some d.number) =
     subst (λ (r : Rank). Updates rank_cmp m.queue c.insert.new.self r (Some d.number))
     (c.rank_of-rank.ensures ∙ ap (λ (j : Job). rank_at p sheet j d.number) job) c.in_ok-insert.ensures.updates in

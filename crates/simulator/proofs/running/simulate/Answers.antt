@@ -20,7 +20,8 @@ returns-in_err-run_tick-clause-exact g c =
     let w : World = world_by g.P.Policy.meaning g.M.Preemption.cuts c.args.sheet.now c.args.mode in
     let result = c.from_residual-in_err-run_tick.result in
     let p = err_from_is_err_and result c.from_residual-in_err-run_tick.ensures.1 in
-    let exact : IsSimulation w c.args.n result = rw (p.1, p.2) (refused w c.args.n c.loop-t.t c.in_err-run_tick.field-0.0 (omega arith) c.in_err-run_tick.ensures.refusal) in
+    let exact : IsSimulation w c.args.n result =
+    rw (p.1, p.2) (refused w c.args.n c.loop-t.t c.in_err-run_tick.field-0.0 (omega arith) c.in_err-run_tick.ensures.refusal) in
     subst (λ (sbf : ℕ → ℕ). IsSimulation (world_of w.policy w.cuts sbf w.sheet w.mode) c.args.n result) (sym c.requires.stated) exact
 
 pub loop-t-init : goal.loop-t-init
@@ -34,7 +35,8 @@ loop-t-init g c =
     record {
       moment = c.in_ok-simulation.ensures.moment;
       kept = c.in_ok-simulation.ensures.kept;
-      openings = openings_start sheet (run_of c.in_ok-simulation.simulation) 0 c.len.result c.in_ok-openings.openings c.len.ensures.len made.ticks made.first gaps;
+      openings = openings_start sheet (run_of c.in_ok-simulation.simulation) 0 c.len.result c.in_ok-openings.openings
+          c.len.ensures.len made.ticks made.first gaps;
     }
 
 pub loop-t-preserved : goal.loop-t-preserved
@@ -42,7 +44,8 @@ loop-t-preserved g c =
     let w : World = world_by g.P.Policy.meaning g.M.Preemption.cuts c.args.sheet.now c.args.mode in
     let is : moment_of c.run_tick.new.simulation ≡ moment_after w (c.loop-t.t + 1) = rw add-one c.in_ok-run_tick.ensures.moment in
     let kept : IsKept w.policy w.cuts w.sheet (c.loop-t.t + 1) c.run_tick.new.simulation = rw add-one c.in_ok-run_tick.ensures.kept in
-    let openings : AreOpenings w.sheet (run_of c.run_tick.new.simulation) (c.loop-t.t + 1) c.run_tick.new.openings = rw add-one c.in_ok-run_tick.ensures.openings in
+    let openings : AreOpenings w.sheet (run_of c.run_tick.new.simulation) (c.loop-t.t + 1) c.run_tick.new.openings =
+    rw add-one c.in_ok-run_tick.ensures.openings in
     record { moment = is; kept = kept; openings = openings }
 
 pub returns : goal.returns
@@ -64,7 +67,8 @@ returns g c =
     subst (IsCompliant w.policy w.cuts sbf w.sheet) (sym is)
     (c.simulation_complies.ensures c.args.supply.now c.known.ensures w.sheet valid c.requires.served w.mode c.args.n) in
     record {
-      exact = simulated (world_of w.policy w.cuts sbf w.sheet w.mode) c.args.n run is (subst (λ (r : Run). refused_by r.jobs ≡ None) (sym here) kept.within.none);
+      exact = simulated (world_of w.policy w.cuts sbf w.sheet w.mode) c.args.n run is
+          (subst (λ (r : Run). refused_by r.jobs ≡ None) (sym here) kept.within.none);
       complies = complies;
       full =
           λ dense. subst (IsDense sheet n) (sym is)

@@ -31,7 +31,8 @@ advance-requires-clause-tick g c =
     let w : World = world_by g.P.Policy.meaning g.M.Preemption.cuts c.args.sheet.now c.args.mode in
     let cuts : HasCuts w = λ o b. g.met.M.Preemption.lawful (task_at w.sheet o) (c.len-valid.ensures.valid.each o b) (c.requires.served o b) in
     let m = c.args.simulation.now in
-    subst (λ (t : ℕ). MayBe (record m { words = c.draw_off-off.new.words }) t c.pick-tick.result) (sym c.requires.kept.jobs.now) (c.pick-tick.ensures.may w c.args.t cuts c.requires.kept)
+    subst (λ (t : ℕ). MayBe (record m { words = c.draw_off-off.new.words }) t c.pick-tick.result) (sym c.requires.kept.jobs.now)
+    (c.pick-tick.ensures.may w c.args.t cuts c.requires.kept)
 
 pub overflow_add-count : goal.overflow_add-count
 overflow_add-count g c =
@@ -39,7 +40,13 @@ overflow_add-count g c =
     let last =
     last_count m.counts c.advance.new.simulation.counts c.args.t c.index.result.now c.advance.ensures.rest.counts
     (omega (arith, c.requires.kept.counts.counted)) c.index.ensures in
-    omega (arith, last, count_low c.args.t (run_of m) m.counts.items c.requires.kept.jobs.now c.requires.kept.counts, c.count_on.ensures, at_most_one (is_on c.pick-tick.result))
+    omega (
+      arith,
+      last,
+      count_low c.args.t (run_of m) m.counts.items c.requires.kept.jobs.now c.requires.kept.counts,
+      c.count_on.ensures,
+      at_most_one (is_on c.pick-tick.result),
+    )
 
 pub returns-clause-moment : goal.returns-clause-moment
 returns-clause-moment g c =
@@ -65,14 +72,17 @@ returns-clause-kept g c =
     let rest = c.advance.ensures.rest in
     let new = c.advance.new.simulation in
     let y = c.pick-tick.result in
-    let after : IsKeptAt g.P.Policy.meaning g.M.Preemption.cuts c.args.sheet.now (suc c.args.t) (suc c.args.t) (suc c.args.t) (with_tick (run_of m) y) new.left.items new.queue new.coming new.inside =
+    let after : IsKeptAt g.P.Policy.meaning g.M.Preemption.cuts c.args.sheet.now (suc c.args.t) (suc c.args.t) (suc c.args.t)
+    (with_tick (run_of m) y) new.left.items new.queue new.coming new.inside =
     subst
-    (λ (t : ℕ). IsKeptAt g.P.Policy.meaning g.M.Preemption.cuts c.args.sheet.now (suc t) (suc t) (suc t) (with_tick (run_of m) y) new.left.items new.queue new.coming new.inside)
+    (λ (t : ℕ). IsKeptAt g.P.Policy.meaning g.M.Preemption.cuts c.args.sheet.now (suc t) (suc t) (suc t)
+    (with_tick (run_of m) y) new.left.items new.queue new.coming new.inside)
     c.requires.kept.jobs.now c.advance.ensures.kept
     in
     let last = last_count m.counts new.counts c.args.t c.index.result.now rest.counts (omega (arith, c.requires.kept.counts.counted)) c.index.ensures in
     kept_then g.P.Policy.meaning g.M.Preemption.cuts c.args.sheet.now c.args.t (run_of m) _ m.left.items new.left.items m.queue
-    new.queue m.coming new.coming m.inside new.inside m.segments new.segments m.arrivals.items new.arrivals.items m.releases.items new.releases.items m.counts.items c.push.new.self.items
+    new.queue m.coming new.coming m.inside new.inside m.segments new.segments m.arrivals.items new.arrivals.items m.releases.items
+    new.releases.items m.counts.items c.push.new.self.items
     y (c.index.result.now + c.count_on.result) c.requires.kept after
     (with_tick_is (run_of m) new.jobs.items c.push-2.new.self.items y (ap (λ (v : Vec Job). v.items) rest.jobs)
     (c.in_ok-push-2.ensures.items ∙ ap (λ (v : Vec Tick). v.items ++ y ∷ []) rest.ticks))

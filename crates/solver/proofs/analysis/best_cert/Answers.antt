@@ -27,8 +27,10 @@ loop-i-preserved g c =
       before = λ h. subst (λ n. IsLeastTo (IsWindow p m sbf sheet n) c.args.horizon (Some c.in-Some.window)) same c.in-Some.ensures;
       so_far =
           rw c.in-Ok-push.ensures.items
-          (entries_counted p m sbf sheet c.args.horizon i c.loop-i.room c.len-count.result c.loop-i.entries.items c.in-Some-within.entry c.loop-i.invariant.so_far
-          (record { window = omega (arith, found.is_for, c.in-Some.ensures.0); bound = omega arith; best = found.best }) c.len-count.ensures (omega (arith, found.few, c.len-count.ensures)));
+          (entries_counted p m sbf sheet c.args.horizon i c.loop-i.room c.len-count.result c.loop-i.entries.items
+          c.in-Some-within.entry c.loop-i.invariant.so_far
+          (record { window = omega (arith, found.is_for, c.in-Some.ensures.0); bound = omega arith; best = found.best })
+          c.len-count.ensures (omega (arith, found.few, c.len-count.ensures)));
     }
 
 pub returns-clause-best : goal.returns-clause-best

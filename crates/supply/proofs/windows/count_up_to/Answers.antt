@@ -7,4 +7,5 @@ pub returns : goal.returns
 returns c =
     let parted = IsPartitionedBy-leb (λ t. t) _ c.args.r (times_sorted _ c.requires) in
     let point = IsPartitionPoint-from_clause (λ t. leb t c.args.r) _ _ c.partition_point.ensures.partitioned parted (λ a r q k. search rules) in
-    sym (count_split c.args.times.now c.args.r _ c.partition_point.ensures.bound (λ k h. leb-true _ _ (point.0 k 0 (omega arith) h)) (λ k h l. leb-false _ _ (point.1 k 0 h l)))
+    sym (count_split c.args.times.now c.args.r _ c.partition_point.ensures.bound
+    (λ k h. leb-true _ _ (point.0 k 0 (omega arith) h)) (λ k h l. leb-false _ _ (point.1 k 0 h l)))

@@ -9,7 +9,9 @@ use Rattle.supply_table.proofs.promising.promise.Goals as goal
 
 times_are : (c : goal.After-drop-ticks-2) → c.loop-n.times.items ≡ times_of c.args.table.now
 times_are c =
-    times_from c.args.table.now c.cycle-valid.ensures.valid c.in_ok-ticks.ticks.items c.loop-n.times.items (c.len-once.result / 2) c.loop-n.n c.in_ok-ticks.ensures (omega (arith, c.len-once.ensures)) (omega (arith, c.loop-n-test.false, c.loop-n.auto.n-end)) c.loop-n.invariant
+    times_from c.args.table.now c.cycle-valid.ensures.valid c.in_ok-ticks.ticks.items c.loop-n.times.items
+    (c.len-once.result / 2) c.loop-n.n c.in_ok-ticks.ensures (omega (arith, c.len-once.ensures))
+    (omega (arith, c.loop-n-test.false, c.loop-n.auto.n-end)) c.loop-n.invariant
 
 pub returns-clause-times : goal.returns-clause-times
 returns-clause-times c = times_are c

@@ -14,4 +14,5 @@ loop-o-preserved c =
 pub returns : goal.returns
 returns c =
     let e : c.loop-o.o ≡ length c.args.sheet.now.tasks = omega arith in
-    below_all c.args.sheet.now c.args.run.now c.loop-o.first c.requires.tasks (subst (λ (n : ℕ). IsFirstJob (IsCrowdedBelow c.args.sheet.now c.args.run.now n) c.args.run.now c.loop-o.first) e c.loop-o.invariant)
+    below_all c.args.sheet.now c.args.run.now c.loop-o.first c.requires.tasks
+    (subst (λ (n : ℕ). IsFirstJob (IsCrowdedBelow c.args.sheet.now c.args.run.now n) c.args.run.now c.loop-o.first) e c.loop-o.invariant)

@@ -10,7 +10,8 @@ pub off_allowed_by-requires-clause-counts : goal.off_allowed_by-requires-clause-
 off_allowed_by-requires-clause-counts c =
     let sheet = c.args.sheet.now in
     let valid = c.len-valid.ensures.valid in
-    are_promised (sbf_of sheet.supply) (stated_starts sheet valid) (λ d. stated_grows sheet d valid) c.args.run.now c.args.counts.now c.args.t c.requires.counts c.requires.free (omega arith)
+    are_promised (sbf_of sheet.supply) (stated_starts sheet valid)
+    (λ d. stated_grows sheet d valid) c.args.run.now c.args.counts.now c.args.t c.requires.counts c.requires.free (omega arith)
 
 pub returns-then-not-is_on : goal.returns-then-not-is_on
 returns-then-not-is_on c =
@@ -20,7 +21,8 @@ returns-then-not-is_on c =
     let off : is_on (tick_at c.args.run.now c.args.t) ≡ false = cc in
     elim (cases_Bool c.off_allowed_by.result) [
       | inl may ↦
-          let fine = off_fine (sbf_of sheet.supply) starts (λ d. stated_grows sheet d valid) c.args.run.now c.args.counts.now c.args.t c.requires.counts (c.off_allowed_by.ensures.0 may) c.requires.tick off in
+          let fine = off_fine (sbf_of sheet.supply) starts (λ d. stated_grows sheet d valid) c.args.run.now c.args.counts.now
+          c.args.t c.requires.counts (c.off_allowed_by.ensures.0 may) c.requires.tick off in
           cc
       | inr not_may ↦
           let short = off_short (sbf_of sheet.supply) starts (λ d. stated_grows sheet d valid) c.args.run.now c.args.counts.now c.args.t c.requires.counts
@@ -34,5 +36,8 @@ returns-else-not-is_on c =
     let valid = c.len-valid.ensures.valid in
     let starts = stated_starts sheet valid in
     let on : is_on (tick_at c.args.run.now c.args.t) ≡ true = cc in
-    let past = are_promised (sbf_of sheet.supply) starts (λ d. stated_grows sheet d valid) c.args.run.now c.args.counts.now c.args.t c.requires.counts c.requires.free (omega arith) in
-    not_from_true c.is_on.result c.if-not-is_on.false ∙ sym (on_fine (sbf_of sheet.supply) starts (λ d. stated_grows sheet d valid) c.args.run.now c.args.counts.now c.args.t c.requires.counts past c.requires.tick on)
+    let past = are_promised (sbf_of sheet.supply) starts (λ d. stated_grows sheet d valid) c.args.run.now c.args.counts.now
+    c.args.t c.requires.counts c.requires.free (omega arith) in
+    not_from_true c.is_on.result c.if-not-is_on.false ∙
+    sym (on_fine (sbf_of sheet.supply) starts (λ d. stated_grows sheet d valid) c.args.run.now c.args.counts.now c.args.t
+    c.requires.counts past c.requires.tick on)

@@ -8,7 +8,8 @@ pub invariant_of-self : goal.invariant_of-self
 invariant_of-self c =
     let l = c.in-Some.line in
     rw c.after_point-self-inside.ensures
-    (point_right c.self.inside.place (point_line l.point l.terms) c.self.inside.line c.args.bytes.now l.rest.now (c.if-not-is_at_point.ensures refl) c.self.invariant c.in-Some.ensures.of c.in-Some.ensures.text)
+    (point_right c.self.inside.place (point_line l.point l.terms) c.self.inside.line c.args.bytes.now l.rest.now
+    (c.if-not-is_at_point.ensures refl) c.self.invariant c.in-Some.ensures.of c.in-Some.ensures.text)
 
 pub returns-clause-first : goal.returns-clause-first
 returns-clause-first c =
@@ -19,10 +20,13 @@ pub returns-clause-progress : goal.returns-clause-progress
 returns-clause-progress c =
     let l = c.in-Some.line in
     rw (c.after_point-self-inside.ensures, ← c.self.view_is)
-    (point_progress c.self.inside.place (point_line l.point l.terms) c.self.inside.line c.args.bytes.now l.rest.now (c.if-not-is_at_point.ensures refl) c.self.invariant c.in-Some.ensures.of c.in-Some.ensures.text)
+    (point_progress c.self.inside.place (point_line l.point l.terms) c.self.inside.line c.args.bytes.now l.rest.now
+    (c.if-not-is_at_point.ensures refl) c.self.invariant c.in-Some.ensures.of c.in-Some.ensures.text)
 
 pub returns-clause-step : goal.returns-clause-step
 returns-clause-step c =
     let l = c.in-Some.line in
     rw (← c.self.view_is)
-    (point_said c.self.inside.place (point_line l.point l.terms) c.self.inside.line (said_at c.self.inside.place.expected) c.args.bytes.now l.rest.now (c.if-not-is_at_point.ensures refl) c.self.invariant c.in-Some.ensures.of c.in-Some.ensures.text)
+    (point_said c.self.inside.place (point_line l.point l.terms) c.self.inside.line
+    (said_at c.self.inside.place.expected) c.args.bytes.now l.rest.now (c.if-not-is_at_point.ensures refl) c.self.invariant
+    c.in-Some.ensures.of c.in-Some.ensures.text)

@@ -14,7 +14,9 @@ pub returns-clause-steps : goal.returns-clause-steps
 returns-clause-steps c =
     let line = c.args.self.now.rest.now in
     let rest = drop (c.in-Some.end + 1) line in
-    rw (c.if-self.false) (words_at c.args.self.now.rest.now c.in-Some.end (sym c.in-Some.ensures.value) ∙ ap (λ (l : List ℕ). take c.in-Some.end line ∷ words_of l) (sym (take_all (length line - (c.in-Some.end + 1)) rest (omega (arith, length-drop (c.in-Some.end + 1) line)))))
+    rw (c.if-self.false) (words_at c.args.self.now.rest.now c.in-Some.end (sym c.in-Some.ensures.value) ∙
+    ap (λ (l : List ℕ). take c.in-Some.end line ∷ words_of l)
+    (sym (take_all (length line - (c.in-Some.end + 1)) rest (omega (arith, length-drop (c.in-Some.end + 1) line)))))
 
 pub returns-clause-goes : goal.returns-clause-goes
 returns-clause-goes c = record { on = λ _. (tt, tt, omega (arith, ap length (returns-clause-steps c))); keeps = tt; rests = λ _. tt }

@@ -16,7 +16,8 @@ returns-in_err-check_tasks-clause-valid c =
 pub new-requires : goal.new-requires
 new-requires c =
     let supply : supply_rule c.args.supply ≡ Ok tt = sym c.check_supply.ensures ∙ c.in_ok-check_supply.was in
-    let tasks : tasks_rule 0 [] c.args.tasks.items ≡ Ok tt = ap (tasks_rule 0 []) (sym c.deref.ensures.value) ∙ sym c.check_tasks.ensures.rule ∙ c.in_ok-check_tasks.was in
+    let tasks : tasks_rule 0 [] c.args.tasks.items ≡ Ok tt = ap (tasks_rule 0 []) (sym c.deref.ensures.value) ∙
+    sym c.check_tasks.ensures.rule ∙ c.in_ok-check_tasks.was in
     let curves = rw c.deref.ensures.value at c.in_ok-check_tasks.ensures.curves in
     let some : 1 ≤ length c.args.tasks.items = omega (arith, ap length c.as_slice-count.ensures.value) in
     let few : length c.args.tasks.items ≤ most_tasks = omega (arith, ap length c.as_slice-count.ensures.value) in

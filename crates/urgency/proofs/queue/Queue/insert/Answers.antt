@@ -2,4 +2,5 @@ use Rattle.urgency.proofs.QueueFacts.{queue_with}
 use Rattle.urgency.proofs.queue.Queue.insert.Goals as goal
 
 pub returns : goal.returns
-returns g c = λ jobs test has q. queue_with g.P.Policy.meaning c.args.sheet.now jobs test c.args.self.now.jobs _ c.args.job.now c.args.number has (rw c.rank_of-rank.ensures at c.in_ok-insert.ensures.updates) q
+returns g c = λ jobs test has q. queue_with g.P.Policy.meaning c.args.sheet.now jobs test c.args.self.now.jobs _ c.args.job.now
+    c.args.number has (rw c.rank_of-rank.ensures at c.in_ok-insert.ensures.updates) q

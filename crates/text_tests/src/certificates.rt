@@ -261,9 +261,8 @@ fn terms_are_read_and_written(rt: HostRuntime) -> Result<(), Fail> {
         others: 1,
         need: 2,
     };
-    assert_eq!(rt;
-        cert.entries.as_slice()[1].terms.as_slice(),
-        [terms].as_slice()
-    );
+    let entries = cert.entries.as_slice();
+    assert_eq!(rt; entries.len(), 2);
+    assert_eq!(rt; entries[1].terms.as_slice(), [terms].as_slice());
     Ok(())
 }

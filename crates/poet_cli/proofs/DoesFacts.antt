@@ -12,13 +12,12 @@ use Rattle.poet_cli.specs.declared.printed.Printed.{Printed}
 use Rattle.poet_cli.specs.declared.printed.Printed.TheVariants.{Done, JudgedNo}
 use Rattle.poet_cli.specs.Endings.{Ending, IsSound}
 use Rattle.poet_cli.specs.Answers.{sheet_read, sheet_by}
-use Rattle.poet_cli.specs.Words.{Asked, CheckOf, AnalyseOf, SimulateOf, AuditOf, ReportOf, ExerciseOf}
+use Rattle.poet_cli.specs.Words.{Asked}
 use Rattle.poet_cli.specs.Readings.{ShelfAt, WasRead, IsFileReading}
 use Rattle.poet_cli.specs.Steps.{Gives, After, Reads, ReadsSheet, NoFile, OneFile, ReadsNext, TwoFiles}
 use Rattle.poet_cli.specs.Origins.{OfOneFile, OfTwoFiles}
-use Rattle.poet_cli.specs.Headline.{Headline}
-use Rattle.poet_cli.specs.Objections.{Objection}
-use Rattle.poet_cli.specs.Program.{Does}
+use Rattle.poet_cli.specs.Works.{Work}
+use Rattle.poet_cli.specs.Program.{Plan, Alone, OverSheet, OverBoth, plan_of, PlanDoes, PlanSays, Does, Headline, Objection}
 use Rattle.poet_cli.specs.Clauses.{LeavesShelf}
 
 -- a sheet was read from these bytes
@@ -80,22 +79,32 @@ module _ (sheet_name : List ℕ) (which : Source) (name : List ℕ) (Ends : Shee
   two_of two = two_of_by two.middle two.gave two.sheet two.next
 
 -- what is printed is true
+abbrev Holds : Work → List ℕ → Type 0
+Holds work text = work.holds text
+
+abbrev Fails : Work → List ℕ → Type 0
+Fails work text = work.fails text
+
+plan_holds : (plan : Plan) (before now : ShelfAt) (text : List ℕ) → PlanDoes plan before now (Ok (Done text)) →
+    PlanSays Holds plan before.files before.log now.log text
+plan_holds (Alone IsOwn work) before now text does = does.does.sound
+plan_holds (OverSheet name IsOwn work) before now text does = one_of name _ before now (Done text) _ (λ parts judges. judges.sound) does
+plan_holds (OverBoth sheet which name IsOwn work) before now text does =
+    two_of sheet which name _ before now (Done text) _ (λ parts bytes judges. judges.sound) does
+
+plan_fails : (plan : Plan) (before now : ShelfAt) (text : List ℕ) → PlanDoes plan before now (Ok (JudgedNo text)) →
+    PlanSays Fails plan before.files before.log now.log text
+plan_fails (Alone IsOwn work) before now text does = does.does.sound
+plan_fails (OverSheet name IsOwn work) before now text does = one_of name _ before now (JudgedNo text) _ (λ parts judges. judges.sound) does
+plan_fails (OverBoth sheet which name IsOwn work) before now text does =
+    two_of sheet which name _ before now (JudgedNo text) _ (λ parts bytes judges. judges.sound) does
+
 pub does_sound : (asked : Option Asked) (before now : ShelfAt) (ending : Ending) → Does asked before now ending →
     IfOk ending (IsSound (Headline asked before.files before.log now.log) (Objection asked before.files before.log now.log))
 does_sound asked before now (Err refusal) does = tt
 does_sound None before now (Ok print) does = absurd (cc (does.does))
-does_sound (Some (CheckOf sheet certificate deadlines)) before now (Ok (Done text)) does = two_of sheet source.Certificate certificate _ before now (Done text) _ (λ parts bytes judges. judges.sound) does
-does_sound (Some (CheckOf sheet certificate deadlines)) before now (Ok (JudgedNo text)) does = two_of sheet source.Certificate certificate _ before now (JudgedNo text) _ (λ parts bytes judges. judges.sound) does
-does_sound (Some (AnalyseOf sheet horizon)) before now (Ok (Done text)) does = one_of sheet _ before now (Done text) _ (λ parts judges. judges.sound) does
-does_sound (Some (AnalyseOf sheet horizon)) before now (Ok (JudgedNo text)) does = one_of sheet _ before now (JudgedNo text) _ (λ parts judges. judges.sound) does
-does_sound (Some (SimulateOf sheet mode ticks)) before now (Ok (Done text)) does = one_of sheet _ before now (Done text) _ (λ parts judges. judges.sound) does
-does_sound (Some (SimulateOf sheet mode ticks)) before now (Ok (JudgedNo text)) does = (one_of sheet _ before now (JudgedNo text) (λ parts. ⊥) (λ parts judges. judges.sound) does).holds
-does_sound (Some (AuditOf sheet run)) before now (Ok (Done text)) does = two_of sheet source.Run run _ before now (Done text) _ (λ parts bytes judges. judges.sound) does
-does_sound (Some (AuditOf sheet run)) before now (Ok (JudgedNo text)) does = two_of sheet source.Run run _ before now (JudgedNo text) _ (λ parts bytes judges. judges.sound) does
-does_sound (Some (ReportOf sheet certificate form)) before now (Ok (Done text)) does = two_of sheet source.Certificate certificate _ before now (Done text) _ (λ parts bytes judges. judges.sound) does
-does_sound (Some (ReportOf sheet certificate form)) before now (Ok (JudgedNo text)) does = two_of sheet source.Certificate certificate _ before now (JudgedNo text) _ (λ parts bytes judges. judges.sound) does
-does_sound (Some (ExerciseOf seed tasks)) before now (Ok (Done text)) does = does.does.sound
-does_sound (Some (ExerciseOf seed tasks)) before now (Ok (JudgedNo text)) does = does.does.sound
+does_sound (Some asked) before now (Ok (Done text)) does = plan_holds (plan_of asked) before now text does
+does_sound (Some asked) before now (Ok (JudgedNo text)) does = plan_fails (plan_of asked) before now text does
 
 -- nothing is open where a file could not be read
 abbrev pub Shut : {A : Type 0} → Bool → Result A Refusal → Type 0
@@ -190,20 +199,22 @@ two_leaves sheet_name which name Ends answer before now ending gives two =
 none_leaves : (before now : ShelfAt) (ending : Ending) → now ≡ before → Shut now.is_open ending → Leaves before now ending
 none_leaves before now ending none shut = record { files = ap (λ x. x.files) none; later = omega (arith, ap (λ x. x.faults) none); shut = shut }
 
+plan_leaves : (plan : Plan) (before now : ShelfAt) (ending : Ending) → PlanDoes plan before now ending → Leaves before now ending
+plan_leaves (Alone IsOwn work) before now ending does = none_leaves before now ending does.none (gives_shut work.answer now.is_open ending does.does.gives)
+plan_leaves (OverSheet name IsOwn work) before now ending does =
+    one_leaves name _ (λ parts. (work parts).answer) before now ending (λ parts judges. judges.gives) does
+plan_leaves (OverBoth sheet which name IsOwn work) before now ending does =
+    two_leaves sheet which name _ (λ parts bytes. (work parts bytes).answer) before now ending (λ parts bytes judges. judges.gives) does
+
 pub does_leave : (asked : Option Asked) (before now : ShelfAt) (ending : Ending) → Does asked before now ending → Leaves before now ending
 does_leave None before now ending does = none_leaves before now ending does.none (rw does.does tt)
-does_leave (Some (CheckOf sheet certificate deadlines)) before now ending does = two_leaves sheet source.Certificate certificate _ _ before now ending (λ parts bytes judges. judges.gives) does
-does_leave (Some (AnalyseOf sheet horizon)) before now ending does = one_leaves sheet _ _ before now ending (λ parts judges. judges.gives) does
-does_leave (Some (SimulateOf sheet mode ticks)) before now ending does = one_leaves sheet _ _ before now ending (λ parts judges. judges.gives) does
-does_leave (Some (AuditOf sheet run)) before now ending does = two_leaves sheet source.Run run _ _ before now ending (λ parts bytes judges. judges.gives) does
-does_leave (Some (ReportOf sheet certificate form)) before now ending does = two_leaves sheet source.Certificate certificate _ _ before now ending (λ parts bytes judges. judges.gives) does
-does_leave (Some (ExerciseOf seed tasks)) before now ending does = none_leaves before now ending does.none (gives_shut _ now.is_open ending does.does.gives)
+does_leave (Some asked) before now ending does = plan_leaves (plan_of asked) before now ending does
 
 -- the clause `shelf`
 shut_read : (is_open : Bool) (ending : Ending) (which : Source) → Shut is_open ending → ending ≡ Err (Read which) → is_open ≡ false
 shut_read is_open ending which shut e = rw e at shut
 
 pub leaves_told : (before now : ShelfAt) (ending : Ending) (status : ℕ) → Leaves before now ending → (status ≡ 3 → (which : Source) × (ending ≡ Err (Read which))) →
-    LeavesShelf before.files now.files before.faults now.faults now.is_open status
+    LeavesShelf before now status
 leaves_told before now ending status left read =
     record { files = left.files; later = left.later; closed = λ e. let at : (which : Source) × (ending ≡ Err (Read which)) = read e in shut_read now.is_open ending at.0 left.shut at.1 }

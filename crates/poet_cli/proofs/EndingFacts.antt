@@ -11,9 +11,10 @@ use Rattle.poet_cli.specs.declared.refusal.Refusal.{Refusal}
 use Rattle.poet_cli.specs.declared.refusal.Refusal.TheVariants.{Usage, Read, Sheet, Text, Limit, Points, Jobs, Segments, Memory}
 use Rattle.poet_cli.specs.Refusals.{refusal_status, line_of, write_failed}
 use Rattle.poet_cli.specs.Endings.{Ending, printed_status, printed_text, ending_status, out_text, err_text, IsSound}
+use Rattle.poet_cli.specs.Readings.{ShelfAt}
 use Rattle.poet_cli.specs.Origins.{WasPrinted}
 use Rattle.poet_cli.proofs.FoundFacts.{Denied, Found}
-use Rattle.poet_cli.specs.Clauses.{Outlets, Scene, ToldText, ToldFault, ToldLine, Told, IsReadLine, SaysWhy, Answers}
+use Rattle.poet_cli.specs.Clauses.{Outlets, ToldText, ToldFault, ToldLine, Told, IsReadLine, SaysWhy, Answers}
 
 printed_few : (p : Printed) → printed_status p ≤ 1
 printed_few (Done text) = omega arith
@@ -22,17 +23,17 @@ printed_few (JudgedNo text) = omega arith
 is_ok_here : (p : Printed) → IsOk {T = Printed} {E = Refusal} (Ok p)
 is_ok_here p = refl
 
-module _ (answer : Files → Ending) (may : Refusal → Type 0) (told now : Option Files) (f g : ℕ) (s t : Outlets) (status : ℕ) where
+module _ (answer : Files → Ending) (may : Refusal → Type 0) (before now : ShelfAt) (s t : Outlets) (status : ℕ) where
   abbrev pub Says : Type 0
-  Says = Answers answer may (record { files = told; faults = f; sinks = s }) (record { files = now; faults = g; sinks = t }) status
+  Says = Answers answer may (record { shelf = before; sinks = s }) (record { shelf = now; sinks = t }) status
 
   abbrev Same : Files → Type 0
   Same x = (status ≡ ending_status (answer x)) × Appended s.out t.out (out_text (answer x))
 
-  text_answers : (p : Printed) → IfTold told (λ x. answer x ≡ Ok p) → ToldText p s t status → Says
+  text_answers : (p : Printed) → IfTold before.files (λ x. answer x ≡ Ok p) → ToldText p s t status → Says
   text_answers p got wrote =
       let few = printed_few p in
-      let same : IfTold told Same = if_told_map told (λ x. answer x ≡ Ok p) Same (λ x e. rw e (wrote.status_is, wrote.text_is)) got in
+      let same : IfTold before.files Same = if_told_map before.files (λ x. answer x ≡ Ok p) Same (λ x e. rw e (wrote.status_is, wrote.text_is)) got in
       record {
         answer_is = λ a b c. same;
         read_cause = λ h. absurd (omega (arith, few, wrote.status_is, h));
@@ -42,16 +43,16 @@ module _ (answer : Files → Ending) (may : Refusal → Type 0) (told now : Opti
         silent_err = λ l. wrote.silent;
         few = omega (arith, few, wrote.status_is);
         says_why = λ l. absurd (omega (arith, few, wrote.status_is, l));
-        complete = λ a b. if_told_map told Same _ (λ x e. inr e) same;
+        complete = λ a b. if_told_map before.files Same _ (λ x e. inr e) same;
       }
 
-  fault_answers : (p : Printed) → IfTold told (λ x. answer x ≡ Ok p) → ToldFault p s t status → Says
+  fault_answers : (p : Printed) → IfTold before.files (λ x. answer x ≡ Ok p) → ToldFault p s t status → Says
   fault_answers p got wrote =
       record {
         answer_is = λ a b c. absurd (b wrote.status_is);
         read_cause = λ h. absurd (omega (arith, wrote.status_is, h));
         write_cause = λ h. wrote.cause;
-        write_part = λ h. if_told_map told (λ x. answer x ≡ Ok p) _ (λ x e. rw e (is_ok_here p, wrote.part)) got;
+        write_part = λ h. if_told_map before.files (λ x. answer x ≡ Ok p) _ (λ x e. rw e (is_ok_here p, wrote.part)) got;
         silent_out = λ l n. absurd (n wrote.status_is);
         silent_err = λ l. absurd (omega (arith, wrote.status_is, l));
         few = omega (arith, wrote.status_is);
@@ -69,10 +70,10 @@ module _ (answer : Files → Ending) (may : Refusal → Type 0) (told now : Opti
       }
 
   -- a refusal that the files tell
-  plain_answers : (r : Refusal) → may r → IfTold told (λ x. answer x ≡ Err r) → 2 ≤ refusal_status r → refusal_status r ≤ 7 → refusal_status r ≢ 3 → refusal_status r ≢ 4 →
+  plain_answers : (r : Refusal) → may r → IfTold before.files (λ x. answer x ≡ Err r) → 2 ≤ refusal_status r → refusal_status r ≤ 7 → refusal_status r ≢ 3 → refusal_status r ≢ 4 →
       (refusal_status r ≡ 2 → r ≡ Usage) → ToldLine r s t status → Says
   plain_answers r m got low high no_read no_write is_usage wrote =
-      let same : IfTold told Same = if_told_map told (λ x. answer x ≡ Err r) Same (λ x e. rw e (wrote.status_is, stayed_appended s.out t.out wrote.silent)) got in
+      let same : IfTold before.files Same = if_told_map before.files (λ x. answer x ≡ Err r) Same (λ x e. rw e (wrote.status_is, stayed_appended s.out t.out wrote.silent)) got in
       record {
         answer_is = λ a b c. same;
         read_cause = λ h. absurd (no_read (sym wrote.status_is ∙ h));
@@ -88,17 +89,17 @@ module _ (answer : Files → Ending) (may : Refusal → Type 0) (told now : Opti
           usage_line = λ h. ap line_of (is_usage (sym wrote.status_is ∙ h));
           read_line = λ h. absurd (no_read (sym wrote.status_is ∙ h));
           write_line = λ h. absurd (no_write (sym wrote.status_is ∙ h));
-          refusal_line = λ l m. if_told_map told (λ x. answer x ≡ Err r) _ (λ x e. rw e refl) got;
+          refusal_line = λ l m. if_told_map before.files (λ x. answer x ≡ Err r) _ (λ x e. rw e refl) got;
           memory_line = λ h. absurd (omega (arith, wrote.status_is, high, h));
         };
-        complete = λ a b. if_told_map told Same _ (λ x e. inr e) same;
+        complete = λ a b. if_told_map before.files Same _ (λ x e. inr e) same;
       }
 
-  read_answers : (which : Source) → may (Read which) → Rose f g ⊎ IsTold told (λ x. answer x ≡ Err (Read which)) → ToldLine (Read which) s t status → Says
+  read_answers : (which : Source) → may (Read which) → Rose before.faults now.faults ⊎ IsTold before.files (λ x. answer x ≡ Err (Read which)) → ToldLine (Read which) s t status → Says
   read_answers which m d wrote =
       record {
         answer_is = λ a b c. absurd (a wrote.status_is);
-        read_cause = λ h. elim d [ inl rose ↦ inl rose | inr e ↦ inr (is_told_map told (λ x. answer x ≡ Err (Read which)) _ (λ x e. rw e refl) e) ];
+        read_cause = λ h. elim d [ inl rose ↦ inl rose | inr e ↦ inr (is_told_map before.files (λ x. answer x ≡ Err (Read which)) _ (λ x e. rw e refl) e) ];
         write_cause = λ h. absurd (omega (arith, wrote.status_is, h));
         write_part = λ h. absurd (omega (arith, wrote.status_is, h));
         silent_out = λ l n. wrote.silent;
@@ -113,7 +114,7 @@ module _ (answer : Files → Ending) (may : Refusal → Type 0) (told now : Opti
             source = which;
             line_is = refl;
             may_fail = m;
-            no_fault = λ n. elim d [ inl rose ↦ absurd (n rose) | inr e ↦ if_told_from told (λ x. answer x ≡ Err (Read which)) _ (λ x e. rw e refl) e ];
+            no_fault = λ n. elim d [ inl rose ↦ absurd (n rose) | inr e ↦ if_told_from before.files (λ x. answer x ≡ Err (Read which)) _ (λ x e. rw e refl) e ];
           };
           write_line = λ h. absurd (omega (arith, wrote.status_is, h));
           refusal_line = λ l m. absurd (omega (arith, wrote.status_is, l, m));
@@ -121,7 +122,7 @@ module _ (answer : Files → Ending) (may : Refusal → Type 0) (told now : Opti
         };
         complete = λ a b. elim d [
           | inl rose ↦ absurd (a rose)
-          | inr e ↦ if_told_from told (λ x. answer x ≡ Err (Read which)) _ (λ x e. rw e (inr (wrote.status_is, stayed_appended s.out t.out wrote.silent))) e
+          | inr e ↦ if_told_from before.files (λ x. answer x ≡ Err (Read which)) _ (λ x e. rw e (inr (wrote.status_is, stayed_appended s.out t.out wrote.silent))) e
         ];
       }
 
@@ -145,10 +146,10 @@ module _ (answer : Files → Ending) (may : Refusal → Type 0) (told now : Opti
           refusal_line = λ l m. absurd (omega (arith, wrote.status_is, l, m));
           memory_line = λ h. refl;
         };
-        complete = λ a b. if_told_any told _ (λ x. inl wrote.status_is);
+        complete = λ a b. if_told_any before.files _ (λ x. inl wrote.status_is);
       }
 
-  refused_answers : (r : Refusal) → may r → Denied answer told f g r → ToldLine r s t status → Says
+  refused_answers : (r : Refusal) → may r → Denied answer before.files before.faults now.faults r → ToldLine r s t status → Says
   refused_answers Usage m d wrote = plain_answers Usage m d (omega arith) (omega arith) (λ e. absurd (omega (arith, e))) (λ e. absurd (omega (arith, e))) (λ e. refl) wrote
   refused_answers (Read which) m d wrote = read_answers which m d wrote
   refused_answers (Sheet e) m d wrote = plain_answers (Sheet e) m d (omega arith) (omega arith) (λ e. absurd (omega (arith, e))) (λ e. absurd (omega (arith, e))) (λ e. absurd (omega (arith, e))) wrote
@@ -160,7 +161,7 @@ module _ (answer : Files → Ending) (may : Refusal → Type 0) (told now : Opti
   refused_answers Memory m d wrote = memory_answers m wrote
 
   -- the clause `answers`
-  pub answers_from : (ending : Ending) → Found answer told f g ending → IfErr ending may → Told ending s t status → Says
+  pub answers_from : (ending : Ending) → Found answer before.files before.faults now.faults ending → IfErr ending may → Told ending s t status → Says
   answers_from (Ok p) found can (inl wrote) = text_answers p found wrote
   answers_from (Ok p) found can (inr wrote) = fault_answers p found wrote
   answers_from (Err r) found can wrote = refused_answers r can found wrote

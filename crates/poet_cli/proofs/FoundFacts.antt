@@ -12,10 +12,10 @@ use Rattle.poet_cli.specs.declared.refusal.Refusal.TheVariants.{Usage, Read, She
 use Rattle.poet_cli.specs.Refusals.{limit_of}
 use Rattle.poet_cli.specs.Endings.{Ending, next}
 use Rattle.poet_cli.specs.Answers.{within, file_in, sheet_by, sheet_in}
-use Rattle.poet_cli.specs.Words.{Asked, CheckOf, AnalyseOf, SimulateOf, AuditOf, ReportOf, ExerciseOf}
+use Rattle.poet_cli.specs.Words.{Asked}
 use Rattle.poet_cli.specs.Readings.{ShelfAt, IsLongerThan, IsFileReading}
 use Rattle.poet_cli.specs.Steps.{Gives, After, Reads, ReadsSheet, NoFile, OneFile, ReadsNext, TwoFiles}
-use Rattle.poet_cli.specs.Program.{over_sheet, over_both, asked_answer, Does}
+use Rattle.poet_cli.specs.Program.{Plan, Alone, OverSheet, OverBoth, over_sheet, over_both, plan_of, plan_answer, PlanDoes, answer_of, Does}
 
 -- why a step was refused, where its answer is this function of the files
 abbrev pub Denied : {A : Type 0} → (Files → Result A Refusal) → Option Files → ℕ → ℕ → Refusal → Type 0
@@ -77,7 +77,7 @@ module _ {A B : Type 0} (first : Files → Result A Refusal) (rest : A → Files
   found_next f h g le a is (Err Segments) d = if_told_map_two told _ _ _ (λ x s t. rw s t) is d
   found_next f h g le a is (Err Memory) d = tt
 
-within_few : (which : Source) (bytes : List ℕ) → length bytes ≤ limit_of which → within which (Some bytes) ≡ Ok bytes
+pub within_few : (which : Source) (bytes : List ℕ) → length bytes ≤ limit_of which → within which (Some bytes) ≡ Ok bytes
 within_few which bytes few = let e : nat_le (length bytes) (limit_of which) ≡ true = grind (arith, nat_tests) in rw e refl
 
 within_many : (which : Source) (bytes : List ℕ) → limit_of which < length bytes → within which (Some bytes) ≡ Err (Limit which)
@@ -147,11 +147,15 @@ none_found : (answer : Ending) (told : Option Files) (f g : ℕ) (ending : Endin
 none_found answer told f g ending gives = given (λ x. answer) answer told f g ending (if_told_any told _ (λ x. refl)) gives
 
 -- the ending is the answer over the files, where they are told
-pub does_found : (asked : Option Asked) (before now : ShelfAt) (ending : Ending) → Does asked before now ending → Found (asked_answer asked) before.files before.faults now.faults ending
+plan_found : (plan : Plan) (before now : ShelfAt) (ending : Ending) → PlanDoes plan before now ending →
+    Found (plan_answer plan) before.files before.faults now.faults ending
+plan_found (Alone IsOwn work) before now ending does = none_found work.answer before.files before.faults now.faults ending does.does.gives
+plan_found (OverSheet name IsOwn work) before now ending does =
+    one_found name _ (λ parts. (work parts).answer) before now ending (λ parts judges. judges.gives) does
+plan_found (OverBoth sheet which name IsOwn work) before now ending does =
+    two_found sheet which name _ (λ parts bytes. (work parts bytes).answer) before now ending (λ parts bytes judges. judges.gives) does
+
+pub does_found : (asked : Option Asked) (before now : ShelfAt) (ending : Ending) → Does asked before now ending →
+    Found (answer_of asked) before.files before.faults now.faults ending
 does_found None before now ending does = rw does.does (if_told_any before.files _ (λ x. refl))
-does_found (Some (CheckOf sheet certificate deadlines)) before now ending does = two_found sheet source.Certificate certificate _ _ before now ending (λ parts bytes judges. judges.gives) does
-does_found (Some (AnalyseOf sheet horizon)) before now ending does = one_found sheet _ _ before now ending (λ parts judges. judges.gives) does
-does_found (Some (SimulateOf sheet mode ticks)) before now ending does = one_found sheet _ _ before now ending (λ parts judges. judges.gives) does
-does_found (Some (AuditOf sheet run)) before now ending does = two_found sheet source.Run run _ _ before now ending (λ parts bytes judges. judges.gives) does
-does_found (Some (ReportOf sheet certificate form)) before now ending does = two_found sheet source.Certificate certificate _ _ before now ending (λ parts bytes judges. judges.gives) does
-does_found (Some (ExerciseOf seed tasks)) before now ending does = none_found _ before.files before.faults now.faults ending does.does.gives
+does_found (Some asked) before now ending does = plan_found (plan_of asked) before now ending does

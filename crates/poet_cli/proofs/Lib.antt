@@ -9,3 +9,4 @@ mod SeenFacts
 mod LengthFacts
 mod AnalysisFacts
 mod SimulationFacts
+mod JudgeFacts

@@ -11,12 +11,12 @@ use Rattle.poet_cli.specs.declared.refusal.Source.TheVariants as source
 use Rattle.poet_cli.specs.declared.refusal.Refusal.{Refusal}
 use Rattle.poet_cli.specs.declared.refusal.Refusal.TheVariants.{Usage, Read, Sheet, Text, Limit, Points, Jobs, Segments, Memory}
 use Rattle.poet_cli.specs.Endings.{Ending}
-use Rattle.poet_cli.specs.Words.{Asked, CheckOf, AnalyseOf, SimulateOf, AuditOf, ReportOf, ExerciseOf}
+use Rattle.poet_cli.specs.Words.{Asked}
 use Rattle.poet_cli.specs.Refusals.{limit_of}
 use Rattle.poet_cli.specs.Readings.{ShelfAt, IsFileReading}
 use Rattle.poet_cli.specs.Steps.{Reads, ReadsSheet, OneFile, ReadsNext, TwoFiles}
-use Rattle.poet_cli.specs.Openings.{files_of, opened_in, Opens, OpensFront}
-use Rattle.poet_cli.specs.Program.{Does}
+use Rattle.poet_cli.specs.Openings.{opened_in, Opens, OpensFront}
+use Rattle.poet_cli.specs.Program.{Plan, Alone, OverSheet, OverBoth, plan_of, plan_files, files_of, PlanDoes, Does}
 
 opened_append : (xs ys : List Event) → opened_in (xs ++ ys) ≡ opened_in xs ++ opened_in ys
 opened_append [] ys = refl
@@ -94,11 +94,13 @@ two_opens : (sheet_name : List ℕ) (which : Source) (name : List ℕ) (Ends : S
 two_opens sheet_name which name Ends before now ending two = two_opens_by sheet_name which name Ends before two.middle now ending two.gave two.sheet two.next
 
 -- a command opens a front of its files, in their order, and nothing else
-pub does_open : (asked : Option Asked) (before now : ShelfAt) (ending : Ending) → Does asked before now ending → OpensFront (files_of asked) before.log now.log
+plan_open : (plan : Plan) (before now : ShelfAt) (ending : Ending) → PlanDoes plan before now ending →
+    OpensFront (plan_files plan) before.log now.log
+plan_open (Alone IsOwn work) before now ending does = none_opens [] before now does.none
+plan_open (OverSheet name IsOwn work) before now ending does = one_opens name _ before now ending does
+plan_open (OverBoth sheet which name IsOwn work) before now ending does = two_opens sheet which name _ before now ending does
+
+pub does_open : (asked : Option Asked) (before now : ShelfAt) (ending : Ending) → Does asked before now ending →
+    OpensFront (files_of asked) before.log now.log
 does_open None before now ending does = none_opens [] before now does.none
-does_open (Some (CheckOf sheet certificate deadlines)) before now ending does = two_opens sheet source.Certificate certificate _ before now ending does
-does_open (Some (AnalyseOf sheet horizon)) before now ending does = one_opens sheet _ before now ending does
-does_open (Some (SimulateOf sheet mode ticks)) before now ending does = one_opens sheet _ before now ending does
-does_open (Some (AuditOf sheet run)) before now ending does = two_opens sheet source.Run run _ before now ending does
-does_open (Some (ReportOf sheet certificate form)) before now ending does = two_opens sheet source.Certificate certificate _ before now ending does
-does_open (Some (ExerciseOf seed tasks)) before now ending does = none_opens [] before now does.none
+does_open (Some asked) before now ending does = plan_open (plan_of asked) before now ending does

@@ -10,10 +10,9 @@ use Rattle.simulated_run.specs.Laws.{IsDense}
 use Rattle.simulator.specs.declared.refusal.SimRefusal.{SimRefusal}
 use Rattle.simulator.specs.Simulations.{refused_by, run_or, simulation_of}
 use Rattle.poet_cli.specs.declared.printed.Printed.TheVariants.{Done}
-use Rattle.poet_cli.specs.RunAnswers.{world_for, simulate_by}
-use Rattle.poet_cli.specs.Headline.{RunComplies, SimulationHolds}
-use Rattle.poet_cli.specs.Objections.{Never}
-use Rattle.poet_cli.specs.Program.{Judges}
+use Rattle.poet_cli.specs.RunAnswers.{world_for}
+use Rattle.poet_cli.specs.Headline.{RunComplies}
+use Rattle.poet_cli.specs.Works.{SimulateDoes}
 
 run_given : (whole run : Run) (limit : Option SimRefusal) → run_or whole limit ≡ Ok run → run ≡ whole
 run_given whole run None e = cc
@@ -21,7 +20,7 @@ run_given whole run (Some limit) e = absurd (cc)
 
 -- a simulation that was not refused, and the text of its run
 pub simulation_judged : (sheet : SheetParts) (mode : Mode) (ticks : ℕ) (run : Run) (text : List ℕ) → text ≡ text_of run → simulation_of (world_for sheet mode) ticks ≡ Ok run → RunComplies sheet run → (mode ≡ Dense → IsDense sheet ticks run) →
-    Judges (simulate_by mode ticks sheet) (SimulationHolds sheet mode ticks) Never (Ok (Done text))
+    SimulateDoes mode ticks sheet (Ok (Done text))
 simulation_judged sheet mode ticks run text same exact complies full =
     let w : World = world_for sheet mode in
     let is : run ≡ simulated_run w ticks = run_given (simulated_run w ticks) run (refused_by (simulated_run w ticks).jobs) exact in
@@ -32,4 +31,5 @@ simulation_judged sheet mode ticks run text same exact complies full =
         full = λ dense. subst (IsDense sheet ticks) is (full dense);
         printed = same ∙ ap text_of is;
       };
+      refused = tt;
     }

@@ -20,11 +20,23 @@ pub record Outlets : Type 0 where
   pub err : List ℕ
   pub err_faults : ℕ
 
--- the outside at a moment
-pub record Scene : Type 0 where
-  pub files : Option Files
-  pub faults : ℕ
+abbrev pub outlets : {O E : Type 0} → (O → List ℕ) → (O → ℕ) → (E → List ℕ) → (E → ℕ) → O → E →
+    Outlets
+outlets out_written out_faults err_written err_faults out err =
+    record {
+      out = out_written out;
+      out_faults = out_faults out;
+      err = err_written err;
+      err_faults = err_faults err;
+    }
+
+-- the outside at a moment: the shelf and the sinks
+pub record Outside : Type 0 where
+  pub shelf : ShelfAt
   pub sinks : Outlets
+
+abbrev pub outside : ShelfAt → Outlets → Outside
+outside shelf sinks = record { shelf = shelf; sinks = sinks }
 
 -- the text was written
 pub record ToldText (print : Printed) (before after : Outlets) (status : ℕ) : Type 0 where
@@ -47,20 +59,30 @@ pub record ToldLine (refusal : Refusal) (before after : Outlets) (status : ℕ) 
 
 -- how the writing of a text ended: with its status and nothing on err, or with status 4 and its line
 abbrev pub Finished : {E : Type 0} → Result (Unit {0}) E → ℕ → List ℕ → List ℕ → ℕ → ℕ → ℕ → Type 0
-Finished (Ok done) status before after faults_before faults_now answer = (answer ≡ status) × Stayed before after
-Finished (Err fault) status before after faults_before faults_now answer = (answer ≡ 4) × WroteLine before after faults_before faults_now write_failed
+Finished (Ok done) status before after faults_before faults_now answer =
+    (answer ≡ status) × Stayed before after
+Finished (Err fault) status before after faults_before faults_now answer =
+    (answer ≡ 4) × WroteLine before after faults_before faults_now write_failed
 
 -- how an ending was told
 abbrev pub Told : Ending → Outlets → Outlets → ℕ → Type 0
-Told (Ok print) before after status = ToldText print before after status ⊎ ToldFault print before after status
+Told (Ok print) before after status =
+    ToldText print before after status ⊎ ToldFault print before after status
 Told (Err refusal) before after status = ToldLine refusal before after status
 
+-- the status is the answer's, and so is the text that out took
+abbrev pub TellsAnswer : Ending → Outside → Outside → ℕ → Type 0
+TellsAnswer ending before after status =
+    (status ≡ ending_status ending) × Appended before.sinks.out after.sinks.out (out_text ending)
+
 -- the line for a file that could not be read
-pub record IsReadLine (answer : Files → Ending) (may : Refusal → Type 0) (before after : Scene) (line : List ℕ) : Type 0 where
+pub record IsReadLine (answer : Files → Ending) (may : Refusal → Type 0) (before after : Outside)
+    (line : List ℕ) : Type 0 where
   pub source : Source
   pub line_is : line ≡ line_of (Read source)
   pub may_fail : may (Read source)
-  pub no_fault : ¬ Rose before.faults after.faults → IfTold before.files (λ files. line ≡ err_text (answer files))
+  pub no_fault : ¬ Rose before.shelf.faults after.shelf.faults → IfTold before.shelf.files
+      (λ files. line ≡ err_text (answer files))
 
 -- the line of a refusal with this status that the command can give
 pub record IsRefusalLine (may : Refusal → Type 0) (status : ℕ) (line : List ℕ) : Type 0 where
@@ -70,32 +92,36 @@ pub record IsRefusalLine (may : Refusal → Type 0) (status : ℕ) (line : List 
   pub line_is : line ≡ line_of refusal
 
 -- which line was written to err for a status from 2 on, whole where the faults of err did not rise
-pub record SaysWhy (answer : Files → Ending) (may : Refusal → Type 0) (before after : Scene) (status : ℕ) : Type 0 where
+pub record SaysWhy (answer : Files → Ending) (may : Refusal → Type 0) (before after : Outside)
+    (status : ℕ) : Type 0 where
   pub line : List ℕ
   pub one_line : WroteLine before.sinks.err after.sinks.err before.sinks.err_faults after.sinks.err_faults line
   pub refusal_is : status ≢ 4 → IsRefusalLine may status line
   pub usage_line : status ≡ 2 → line ≡ line_of Usage
   pub read_line : status ≡ 3 → IsReadLine answer may before after line
   pub write_line : status ≡ 4 → line ≡ write_failed
-  pub refusal_line : 5 ≤ status → status ≤ 7 → IfTold before.files (λ files. line ≡ err_text (answer files))
+  pub refusal_line : 5 ≤ status → status ≤ 7 → IfTold before.shelf.files
+      (λ files. line ≡ err_text (answer files))
   pub memory_line : status ≡ 8 → line ≡ line_of Memory
 
 -- what a call leaves of its shelf: its files, no fewer faults, and nothing open where one could not be read
-pub record LeavesShelf (files_before files_now : Option Files) (faults_before faults_now : ℕ) (is_open : Bool) (status : ℕ) : Type 0 where
-  pub files : files_now ≡ files_before
-  pub later : faults_before ≤ faults_now
-  pub closed : status ≡ 3 → is_open ≡ false
+pub record LeavesShelf (before now : ShelfAt) (status : ℕ) : Type 0 where
+  pub files : now.files ≡ before.files
+  pub later : before.faults ≤ now.faults
+  pub closed : status ≡ 3 → now.is_open ≡ false
 
 -- what a call tells whose answer is this function of the files, and that may be refused so
-pub record Answers (answer : Files → Ending) (may : Refusal → Type 0) (before after : Scene) (status : ℕ) : Type 0 where
+pub record Answers (answer : Files → Ending) (may : Refusal → Type 0) (before after : Outside)
+    (status : ℕ) : Type 0 where
   -- the answer is the defined one, but for faults and want of memory
-  pub answer_is : status ≢ 3 → status ≢ 4 → status ≢ 8 → IfTold before.files (λ files.
-      (status ≡ ending_status (answer files)) × Appended before.sinks.out after.sinks.out (out_text (answer files)))
+  pub answer_is : status ≢ 3 → status ≢ 4 → status ≢ 8 →
+      IfTold before.shelf.files (λ files. TellsAnswer (answer files) before after status)
   -- a failed read has its cause
-  pub read_cause : status ≡ 3 → Rose before.faults after.faults ⊎ IsTold before.files (λ files. ending_status (answer files) ≡ 3)
+  pub read_cause : status ≡ 3 → Rose before.shelf.faults after.shelf.faults
+      ⊎ IsTold before.shelf.files (λ files. ending_status (answer files) ≡ 3)
   -- a failed write has its cause, and leaves a prefix of the text
   pub write_cause : status ≡ 4 → Rose before.sinks.out_faults after.sinks.out_faults
-  pub write_part : status ≡ 4 → IfTold before.files (λ files.
+  pub write_part : status ≡ 4 → IfTold before.shelf.files (λ files.
       IsOk (answer files) × AppendedPart before.sinks.out after.sinks.out (out_text (answer files)))
   -- what is silent
   pub silent_out : 2 ≤ status → status ≢ 4 → Stayed before.sinks.out after.sinks.out
@@ -104,11 +130,13 @@ pub record Answers (answer : Files → Ending) (may : Refusal → Type 0) (befor
   -- which line
   pub says_why : 2 ≤ status → SaysWhy answer may before after status
   -- with no fault counted the answer is the defined one, or memory
-  pub complete : ¬ Rose before.faults after.faults → ¬ Rose before.sinks.out_faults after.sinks.out_faults → IfTold before.files (λ files.
-      (status ≡ 8) ⊎ ((status ≡ ending_status (answer files)) × Appended before.sinks.out after.sinks.out (out_text (answer files))))
+  pub complete : ¬ Rose before.shelf.faults after.shelf.faults →
+      ¬ Rose before.sinks.out_faults after.sinks.out_faults →
+      IfTold before.shelf.files
+      (λ files. (status ≡ 8) ⊎ TellsAnswer (answer files) before after status)
 
 -- how the command ended, by which calls of its shelf, and how that was told
-pub record Did (asked : Option Asked) (shelf_before shelf_now : ShelfAt) (before after : Outlets) (status : ℕ) : Type 0 where
+pub record Did (asked : Option Asked) (before after : Outside) (status : ℕ) : Type 0 where
   pub ending : Ending
-  pub does : Does asked shelf_before shelf_now ending
-  pub told : Told ending before after status
+  pub does : Does asked before.shelf after.shelf ending
+  pub told : Told ending before.sinks after.sinks status

@@ -1,7 +1,5 @@
 -- What status 0 says: of the bytes that were read, and of the text that was printed.
-use Rattle.std.specs.Prelude.{◌≡◌, ℕ, Bool, false, List, length, Option, Some, None}
-use Rattle.poet_io.specs.declared.log.Event.{Event}
-use Rattle.poet_io.specs.Shelves.{Files}
+use Rattle.std.specs.Prelude.{◌≡◌, ℕ, Bool, List, length}
 use Rattle.poet_io.specs.Texts.{Parses}
 use Rattle.task_sheet.specs.SheetParts.{SheetParts}
 use Rattle.certificate.specs.declared.cert.Cert.{Cert}
@@ -20,15 +18,10 @@ use Rattle.simulated_run.specs.Laws.{IsDense}
 use Rattle.exercise.specs.Exercises.{exercise_of, ExerciseHolds}
 use Rattle.cert_check.specs.Verdicts.{bounds_of, AreInTime}
 use Rattle.poet_cli.specs.declared.printed.Printed.TheVariants as printed
-use Rattle.poet_cli.specs.declared.refusal.Source.TheVariants as source
 use Rattle.poet_cli.specs.Printing.{accepted_text}
 use Rattle.poet_cli.specs.RunPrinting.{audit_print}
 use Rattle.poet_cli.specs.RunAnswers.{world_for, audit_for}
-use Rattle.poet_cli.specs.ReportAnswers.{report_of}
 use Rattle.poet_cli.specs.ExerciseAnswers.{exercise_line}
-use Rattle.poet_cli.specs.Analyses.{BestHolds}
-use Rattle.poet_cli.specs.Origins.{OfOneFile, OfTwoFiles}
-use Rattle.poet_cli.specs.Words.{Asked, CheckOf, AnalyseOf, SimulateOf, AuditOf, ReportOf, ExerciseOf}
 
 -- the accept text with the bounds of a certificate
 abbrev pub accepted_for : SheetParts → Cert → List ℕ
@@ -37,21 +30,26 @@ accepted_for sheet cert = accepted_text sheet (bounds_of cert)
 -- the bytes are a certificate, with a bound for each task, and in every run that complies with the sheet every
 -- job whose arrival plus its task's bound lies within the run is done by then; where deadlines are judged, the
 -- same holds of the tasks' deadlines; and the text is printed of this certificate
-pub record BoundsHold (sheet : SheetParts) (deadlines : Bool) (print : SheetParts → Cert → List ℕ) (bytes text : List ℕ) : Type 0 where
+pub record BoundsHold (sheet : SheetParts) (deadlines : Bool) (print : SheetParts → Cert → List ℕ)
+    (bytes text : List ℕ) : Type 0 where
   pub cert : Cert
   pub reads : Parses cert_format bytes cert
   pub count : length cert.entries ≡ length sheet.tasks
-  pub bounded : AreBounded (meaning_of sheet.policy) per_task_meaning (sbf_of sheet.supply) sheet (bounds_of cert)
-  pub in_time : AreInTime (meaning_of sheet.policy) per_task_meaning (sbf_of sheet.supply) sheet deadlines
+  pub bounded : AreBounded (meaning_of sheet.policy) per_task_meaning (sbf_of sheet.supply) sheet
+      (bounds_of cert)
+  pub in_time : AreInTime (meaning_of sheet.policy) per_task_meaning
+      (sbf_of sheet.supply) sheet deadlines
   pub printed : text ≡ print sheet cert
 
 -- the run complies with the sheet
 abbrev pub RunComplies : SheetParts → Run → Type 0
-RunComplies sheet run = IsCompliant (meaning_of sheet.policy) per_task_meaning (sbf_of sheet.supply) sheet run
+RunComplies sheet run =
+    IsCompliant (meaning_of sheet.policy) per_task_meaning (sbf_of sheet.supply) sheet run
 
 -- the simulated run of a sheet complies with it, and in mode dense as many jobs arrive at each of its ticks
 -- as the curves still admit; and the text is this run's
-pub record SimulationHolds (sheet : SheetParts) (mode : Mode) (ticks : ℕ) (text : List ℕ) : Type 0 where
+pub record SimulationHolds (sheet : SheetParts) (mode : Mode) (ticks : ℕ) (text : List ℕ)
+    : Type 0 where
   pub complies : RunComplies sheet (simulated_run (world_for sheet mode) ticks)
   pub full : mode ≡ Dense → IsDense sheet ticks (simulated_run (world_for sheet mode) ticks)
   pub printed : text ≡ run_text_of (simulated_run (world_for sheet mode) ticks)
@@ -67,15 +65,3 @@ pub record RunHolds (sheet : SheetParts) (bytes text : List ℕ) : Type 0 where
 pub record ExerciseIsPrinted (seed tasks : ℕ) (text : List ℕ) : Type 0 where
   pub exercise_holds : ExerciseHolds seed tasks
   pub printed : text ≡ exercise_line seed tasks (exercise_of seed tasks)
-
--- what status 0 says of the bytes that were read and of the text
-abbrev pub Headline : Option Asked → Option Files → List Event → List Event → List ℕ → Type 0
-Headline None told before now text = ⊥
-Headline (Some (CheckOf sheet certificate deadlines)) told before now text =
-    OfTwoFiles sheet source.Certificate certificate told before now (λ parts bytes. BoundsHold parts deadlines accepted_for bytes text)
-Headline (Some (AnalyseOf sheet horizon)) told before now text = OfOneFile sheet told before now (λ parts. BestHolds parts horizon text)
-Headline (Some (SimulateOf sheet mode ticks)) told before now text = OfOneFile sheet told before now (λ parts. SimulationHolds parts mode ticks text)
-Headline (Some (AuditOf sheet run)) told before now text = OfTwoFiles sheet source.Run run told before now (λ parts bytes. RunHolds parts bytes text)
-Headline (Some (ReportOf sheet certificate form)) told before now text =
-    OfTwoFiles sheet source.Certificate certificate told before now (λ parts bytes. BoundsHold parts false (report_of form) bytes text)
-Headline (Some (ExerciseOf seed tasks)) told before now text = ExerciseIsPrinted seed tasks text

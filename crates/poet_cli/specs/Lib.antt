@@ -5,7 +5,6 @@ pub mod Printing
 pub mod RunPrinting
 pub mod Answers
 pub mod RunAnswers
-pub mod ReportAnswers
 pub mod ExerciseAnswers
 pub mod Readings
 pub mod Steps
@@ -13,6 +12,9 @@ pub mod Openings
 pub mod Origins
 pub mod Analyses
 pub mod Headline
+pub mod ReportAnswers
 pub mod Objections
+pub mod Refusing
+pub mod Works
 pub mod Program
 pub mod Clauses

@@ -1,7 +1,5 @@
 -- What status 1 says: of the bytes that were read, and of the text that was printed.
-use Rattle.std.specs.Prelude.{◌≡◌, ℕ, Bool, false, List, Option, Some, None}
-use Rattle.poet_io.specs.declared.log.Event.{Event}
-use Rattle.poet_io.specs.Shelves.{Files}
+use Rattle.std.specs.Prelude.{◌≡◌, ℕ, Bool, List, Some}
 use Rattle.poet_io.specs.Texts.{Parses}
 use Rattle.task_sheet.specs.SheetParts.{SheetParts}
 use Rattle.policy_more.specs.Meanings.{meaning_of}
@@ -15,29 +13,29 @@ use Rattle.run_model.specs.declared.run.Run.{Run}
 use Rattle.run_text.specs.Text.{run_format}
 use Rattle.schedule_laws.specs.Compliance.{IsCompliant}
 use Rattle.poet_cli.specs.declared.printed.Printed.TheVariants as printed
-use Rattle.poet_cli.specs.declared.refusal.Source.TheVariants as source
 use Rattle.poet_cli.specs.Printing.{refused_text}
 use Rattle.poet_cli.specs.RunPrinting.{audit_print}
 use Rattle.poet_cli.specs.RunAnswers.{audit_for}
-use Rattle.poet_cli.specs.Analyses.{NoneHolds}
-use Rattle.poet_cli.specs.Origins.{OfOneFile, OfTwoFiles}
-use Rattle.poet_cli.specs.Words.{Asked, CheckOf, AnalyseOf, SimulateOf, AuditOf, ReportOf, ExerciseOf}
 
 -- the certificate fails to meet a condition, and the text tells the first
-pub record Fails (sheet : SheetParts) (deadlines : Bool) (cert : Cert) (text : List ℕ) : Type 0 where
+pub record Fails (sheet : SheetParts) (deadlines : Bool) (cert : Cert) (text : List ℕ)
+    : Type 0 where
   pub first : Failed
-  pub fails : failed_of (meaning_of sheet.policy) per_task_meaning (sbf_of sheet.supply) sheet deadlines cert ≡ Some first
+  pub fails : failed_of (meaning_of sheet.policy) per_task_meaning
+      (sbf_of sheet.supply) sheet deadlines cert ≡ Some first
   pub printed : text ≡ refused_text sheet first
 
 -- the bytes are a certificate, and it fails to meet a condition
-pub record CertificateFails (sheet : SheetParts) (deadlines : Bool) (bytes text : List ℕ) : Type 0 where
+pub record CertificateFails (sheet : SheetParts) (deadlines : Bool) (bytes text : List ℕ)
+    : Type 0 where
   pub cert : Cert
   pub reads : Parses cert_format bytes cert
   pub failing : Fails sheet deadlines cert text
 
 -- the run does not comply with the sheet
 abbrev pub RunBreaks : SheetParts → Run → Type 0
-RunBreaks sheet run = IsCompliant (meaning_of sheet.policy) per_task_meaning (sbf_of sheet.supply) sheet run → ⊥
+RunBreaks sheet run =
+    IsCompliant (meaning_of sheet.policy) per_task_meaning (sbf_of sheet.supply) sheet run → ⊥
 
 -- the bytes are a run, and it does not comply with the sheet; and the text tells the first broken rule
 pub record RunFails (sheet : SheetParts) (bytes text : List ℕ) : Type 0 where
@@ -49,15 +47,3 @@ pub record RunFails (sheet : SheetParts) (bytes text : List ℕ) : Type 0 where
 -- no text is one of status 1
 abbrev pub Never : List ℕ → Type 0
 Never text = ⊥
-
--- what status 1 says of the bytes that were read and of the text; simulate and exercise never answer it
-abbrev pub Objection : Option Asked → Option Files → List Event → List Event → List ℕ → Type 0
-Objection None told before now text = ⊥
-Objection (Some (CheckOf sheet certificate deadlines)) told before now text =
-    OfTwoFiles sheet source.Certificate certificate told before now (λ parts bytes. CertificateFails parts deadlines bytes text)
-Objection (Some (AnalyseOf sheet horizon)) told before now text = OfOneFile sheet told before now (λ parts. NoneHolds parts horizon text)
-Objection (Some (SimulateOf sheet mode ticks)) told before now text = ⊥
-Objection (Some (AuditOf sheet run)) told before now text = OfTwoFiles sheet source.Run run told before now (λ parts bytes. RunFails parts bytes text)
-Objection (Some (ReportOf sheet certificate form)) told before now text =
-    OfTwoFiles sheet source.Certificate certificate told before now (λ parts bytes. CertificateFails parts false bytes text)
-Objection (Some (ExerciseOf seed tasks)) told before now text = ⊥

@@ -1,18 +1,7 @@
 -- The names that a command opened.
-use Rattle.std.specs.Prelude.{◌≡◌, ℕ, List, [], ◌∷◌, ◌++◌, Option, Some, None}
+use Rattle.std.specs.Prelude.{◌≡◌, ℕ, List, [], ◌∷◌, ◌++◌}
 use Rattle.poet_io.specs.declared.log.Event.{Event}
 use Rattle.poet_io.specs.declared.log.Event.TheVariants.{Opened, OpenFailed, Read, ReadFailed}
-use Rattle.poet_cli.specs.Words.{Asked, CheckOf, AnalyseOf, SimulateOf, AuditOf, ReportOf, ExerciseOf}
-
--- the files of a command
-abbrev pub files_of : Option Asked → List (List ℕ)
-files_of None = []
-files_of (Some (CheckOf sheet certificate deadlines)) = sheet ∷ certificate ∷ []
-files_of (Some (AnalyseOf sheet horizon)) = sheet ∷ []
-files_of (Some (SimulateOf sheet mode ticks)) = sheet ∷ []
-files_of (Some (AuditOf sheet run)) = sheet ∷ run ∷ []
-files_of (Some (ReportOf sheet certificate form)) = sheet ∷ certificate ∷ []
-files_of (Some (ExerciseOf seed tasks)) = []
 
 -- the names of the openings among some calls, in their order
 abbrev pub opened_in : List Event → List (List ℕ)

@@ -10,7 +10,8 @@ use Rattle.poet_cli.specs.declared.refusal.Source.TheVariants as source
 use Rattle.poet_cli.specs.Readings.{WasRead}
 
 -- the bytes of one file were read and are a sheet, and this holds of it
-pub record OfOneFile (name : List ℕ) (told : Option Files) (before now : List Event) (Holds : SheetParts → Type 0) : Type 0 where
+pub record OfOneFile (name : List ℕ) (told : Option Files) (before now : List Event)
+    (Holds : SheetParts → Type 0) : Type 0 where
   pub bytes : List ℕ
   pub read : WasRead source.Sheet name told before now bytes
   pub sheet : SheetParts
@@ -18,7 +19,8 @@ pub record OfOneFile (name : List ℕ) (told : Option Files) (before now : List 
   pub holds : Holds sheet
 
 -- the bytes of two files were read, one after the other; the first are a sheet, and this holds of it and the other bytes
-pub record OfTwoFiles (sheet_name : List ℕ) (which : Source) (name : List ℕ) (told : Option Files) (before now : List Event) (Holds : SheetParts → List ℕ → Type 0) : Type 0 where
+pub record OfTwoFiles (sheet_name : List ℕ) (which : Source) (name : List ℕ) (told : Option Files)
+    (before now : List Event) (Holds : SheetParts → List ℕ → Type 0) : Type 0 where
   pub sheet_bytes : List ℕ
   pub middle : List Event
   pub sheet_read : WasRead source.Sheet sheet_name told before middle sheet_bytes

@@ -1,117 +1,110 @@
--- What the program does for its words: the files that it reads, the answer over them, and which refusals it can give.
-use Rattle.std.specs.Prelude.{◌≡◌, ◌≢◌, ◌⊎◌, ℕ, Bool, false, List, Option, Some, None, Err, IsOk, IfOk}
-use Rattle.poet_io.specs.Shelves.{Files, IfTold}
+-- The program: the table of its commands, and what follows from it.
+use Rattle.std.specs.Prelude.{◌≡◌, ℕ, false, List, [], ◌∷◌, Option, Some, None, Err}
+use Rattle.poet_io.specs.declared.log.Event.{Event}
+use Rattle.poet_io.specs.Shelves.{Files}
 use Rattle.task_sheet.specs.SheetParts.{SheetParts}
-use Rattle.task_sheet.specs.declared.refusal.SheetRefusal.TheVariants as sheets
-use Rattle.simulated_run.specs.declared.mode.Mode.{Mode}
-use Rattle.poet_cli.specs.declared.grammar.Form.{Form}
 use Rattle.poet_cli.specs.declared.refusal.Source.{Source}
 use Rattle.poet_cli.specs.declared.refusal.Source.TheVariants as source
 use Rattle.poet_cli.specs.declared.refusal.Refusal.{Refusal}
-use Rattle.poet_cli.specs.declared.refusal.Refusal.TheVariants.{Usage, Read, Sheet, Text, Limit, Points, Jobs, Segments, Memory}
-use Rattle.poet_cli.specs.Words.{Asked, CheckOf, AnalyseOf, SimulateOf, AuditOf, ReportOf, ExerciseOf, command_in}
-use Rattle.poet_cli.specs.Endings.{Ending, next, IsSound}
-use Rattle.poet_cli.specs.Answers.{file_in, sheet_in, check_by, analyse_by}
-use Rattle.poet_cli.specs.RunAnswers.{simulate_by, audit_by}
-use Rattle.poet_cli.specs.ReportAnswers.{report_of, report_by}
-use Rattle.poet_cli.specs.ExerciseAnswers.{exercise_answer}
+use Rattle.poet_cli.specs.declared.refusal.Refusal.TheVariants.{Usage}
+use Rattle.poet_cli.specs.Words.{Asked, CheckOf, AnalyseOf, SimulateOf, AuditOf, ReportOf, ExerciseOf}
+use Rattle.poet_cli.specs.Endings.{Ending, next}
+use Rattle.poet_cli.specs.Answers.{file_in, sheet_in}
+use Rattle.poet_cli.specs.ReportAnswers.{report_of}
+use Rattle.poet_cli.specs.Headline.{accepted_for}
 use Rattle.poet_cli.specs.Readings.{ShelfAt}
-use Rattle.poet_cli.specs.Steps.{Gives, NoFile, OneFile, TwoFiles}
-use Rattle.poet_cli.specs.Analyses.{BestHolds, NoneHolds}
-use Rattle.poet_cli.specs.Headline.{accepted_for, BoundsHold, SimulationHolds, RunHolds, ExerciseIsPrinted}
-use Rattle.poet_cli.specs.Objections.{CertificateFails, RunFails, Never}
+use Rattle.poet_cli.specs.Steps.{NoFile, OneFile, TwoFiles}
+use Rattle.poet_cli.specs.Origins.{OfOneFile, OfTwoFiles}
+use Rattle.poet_cli.specs.Refusing.{NoText, IsTextOf, IsNoRefusal, IsPointsRefusal, IsRunRefusal, MayRefuse, NoSource, IsSheet, IsSheetOr}
+use Rattle.poet_cli.specs.Works.{Work, judge_work, analyse_work, simulate_work, audit_work, exercise_work, Judges}
 
--- the answers over the files of a shelf
+-- which files a command reads, the refusals of its own, and its work over what it read
+pub data Plan : Type 1 where
+  Alone : (Refusal → Type 0) → Work → Plan
+  OverSheet : List ℕ → (Refusal → Type 0) → (SheetParts → Work) → Plan
+  OverBoth : List ℕ → Source → List ℕ → (Refusal → Type 0) → (SheetParts → List ℕ → Work) → Plan
+
+-- the commands
+abbrev pub plan_of : Asked → Plan
+plan_of (CheckOf sheet certificate deadlines) =
+    OverBoth sheet source.Certificate certificate IsNoRefusal (judge_work accepted_for deadlines)
+plan_of (AnalyseOf sheet horizon) = OverSheet sheet IsPointsRefusal (analyse_work horizon)
+plan_of (SimulateOf sheet mode ticks) = OverSheet sheet IsRunRefusal (simulate_work mode ticks)
+plan_of (AuditOf sheet run) = OverBoth sheet source.Run run IsNoRefusal audit_work
+plan_of (ReportOf sheet certificate form) =
+    OverBoth sheet source.Certificate certificate IsNoRefusal (judge_work (report_of form) false)
+plan_of (ExerciseOf seed tasks) = Alone IsNoRefusal (exercise_work seed tasks)
+
+-- the files that it reads
+abbrev pub plan_files : Plan → List (List ℕ)
+plan_files (Alone IsOwn work) = []
+plan_files (OverSheet name IsOwn work) = name ∷ []
+plan_files (OverBoth sheet which name IsOwn work) = sheet ∷ name ∷ []
+
+abbrev pub files_of : Option Asked → List (List ℕ)
+files_of None = []
+files_of (Some asked) = plan_files (plan_of asked)
+
+-- its answer over the files of a shelf
 abbrev pub over_sheet : List ℕ → (SheetParts → Ending) → Files → Ending
 over_sheet name answer files = next (sheet_in name files) answer
 
 abbrev pub over_both : List ℕ → Source → List ℕ → (SheetParts → List ℕ → Ending) → Files → Ending
-over_both sheet which name answer files = next (sheet_in sheet files) (λ parts. next (file_in which name files) (answer parts))
+over_both sheet which name answer files =
+    next (sheet_in sheet files) (λ parts. next (file_in which name files) (answer parts))
 
-abbrev pub asked_answer : Option Asked → Files → Ending
-asked_answer None files = Err Usage
-asked_answer (Some (CheckOf sheet certificate deadlines)) files = over_both sheet source.Certificate certificate (check_by deadlines) files
-asked_answer (Some (AnalyseOf sheet horizon)) files = over_sheet sheet (analyse_by horizon) files
-asked_answer (Some (SimulateOf sheet mode ticks)) files = over_sheet sheet (simulate_by mode ticks) files
-asked_answer (Some (AuditOf sheet run)) files = over_both sheet source.Run run audit_by files
-asked_answer (Some (ReportOf sheet certificate form)) files = over_both sheet source.Certificate certificate (report_by form) files
-asked_answer (Some (ExerciseOf seed tasks)) files = exercise_answer seed tasks
+abbrev pub plan_answer : Plan → Files → Ending
+plan_answer (Alone IsOwn work) files = work.answer
+plan_answer (OverSheet name IsOwn work) files = over_sheet name (λ parts. (work parts).answer) files
+plan_answer (OverBoth sheet which name IsOwn work) files =
+    over_both sheet which name (λ parts bytes. (work parts bytes).answer) files
 
--- the answer of the program to the words, over these files
-abbrev pub answer_of : List (List ℕ) → Files → Ending
-answer_of words files = asked_answer (command_in words) files
+-- the answer of the program to what its words ask for, over these files
+abbrev pub answer_of : Option Asked → Files → Ending
+answer_of None files = Err Usage
+answer_of (Some asked) files = plan_answer (plan_of asked) files
 
--- the ending is the answer, or want of memory; and what is printed is true
-pub record Judges (answer : Ending) (Holds Fails : List ℕ → Type 0) (ending : Ending) : Type 0 where
-  pub gives : Gives answer ending
-  pub sound : IfOk ending (IsSound Holds Fails)
+-- the files are read in their order and each at most once, and it ends by what they gave
+abbrev pub PlanDoes : Plan → ShelfAt → ShelfAt → Ending → Type 0
+PlanDoes (Alone IsOwn work) before now ending = NoFile (Judges NoText IsOwn work) before now ending
+PlanDoes (OverSheet name IsOwn work) before now ending =
+    OneFile name (λ parts. Judges NoText IsOwn (work parts)) before now ending
+PlanDoes (OverBoth sheet which name IsOwn work) before now ending =
+    TwoFiles sheet which name
+    (λ parts bytes. Judges (IsTextOf which) IsOwn (work parts bytes)) before now ending
 
--- what each command does with what it read
-abbrev pub CheckDoes : Bool → SheetParts → List ℕ → Ending → Type 0
-CheckDoes deadlines sheet bytes = Judges (check_by deadlines sheet bytes) (BoundsHold sheet deadlines accepted_for bytes) (CertificateFails sheet deadlines bytes)
-
-abbrev pub AnalyseDoes : ℕ → SheetParts → Ending → Type 0
-AnalyseDoes horizon sheet = Judges (analyse_by horizon sheet) (BestHolds sheet horizon) (NoneHolds sheet horizon)
-
-abbrev pub SimulateDoes : Mode → ℕ → SheetParts → Ending → Type 0
-SimulateDoes mode ticks sheet = Judges (simulate_by mode ticks sheet) (SimulationHolds sheet mode ticks) Never
-
-abbrev pub AuditDoes : SheetParts → List ℕ → Ending → Type 0
-AuditDoes sheet bytes = Judges (audit_by sheet bytes) (RunHolds sheet bytes) (RunFails sheet bytes)
-
-abbrev pub ReportDoes : Form → SheetParts → List ℕ → Ending → Type 0
-ReportDoes form sheet bytes = Judges (report_by form sheet bytes) (BoundsHold sheet false (report_of form) bytes) (CertificateFails sheet false bytes)
-
-abbrev pub ExerciseDoes : ℕ → ℕ → Ending → Type 0
-ExerciseDoes seed tasks = Judges (exercise_answer seed tasks) (ExerciseIsPrinted seed tasks) Never
-
--- the files that a command reads, in their order and each at most once, and how it ends by what they gave
 abbrev pub Does : Option Asked → ShelfAt → ShelfAt → Ending → Type 0
 Does None before now ending = NoFile (λ one. one ≡ Err Usage) before now ending
-Does (Some (CheckOf sheet certificate deadlines)) before now ending = TwoFiles sheet source.Certificate certificate (CheckDoes deadlines) before now ending
-Does (Some (AnalyseOf sheet horizon)) before now ending = OneFile sheet (AnalyseDoes horizon) before now ending
-Does (Some (SimulateOf sheet mode ticks)) before now ending = OneFile sheet (SimulateDoes mode ticks) before now ending
-Does (Some (AuditOf sheet run)) before now ending = TwoFiles sheet source.Run run AuditDoes before now ending
-Does (Some (ReportOf sheet certificate form)) before now ending = TwoFiles sheet source.Certificate certificate (ReportDoes form) before now ending
-Does (Some (ExerciseOf seed tasks)) before now ending = NoFile (ExerciseDoes seed tasks) before now ending
+Does (Some asked) before now ending = PlanDoes (plan_of asked) before now ending
 
--- a command that reads these files, and has these refusals of its own, can be refused so
-abbrev pub MayRefuse : (Source → Type 0) → (Refusal → Type 0) → Refusal → Type 0
-MayRefuse IsRead IsOwn Usage = IsOwn Usage
-MayRefuse IsRead IsOwn (Read which) = IsRead which
-MayRefuse IsRead IsOwn (Sheet refusal) = IsRead source.Sheet × (refusal ≢ sheets.Memory)
-MayRefuse IsRead IsOwn (Text which line) = IsRead which × (which ≢ source.Sheet)
-MayRefuse IsRead IsOwn (Limit which) = IsRead which
-MayRefuse IsRead IsOwn (Points name) = IsOwn (Points name)
-MayRefuse IsRead IsOwn Jobs = IsOwn Jobs
-MayRefuse IsRead IsOwn Segments = IsOwn Segments
-MayRefuse IsRead IsOwn Memory = Unit {0}
+-- which refusals it can give
+abbrev pub PlanMayFail : Plan → Option Files → Refusal → Type 0
+PlanMayFail (Alone IsOwn work) told refusal = MayRefuse NoSource IsOwn refusal
+PlanMayFail (OverSheet name IsOwn work) told refusal = MayRefuse IsSheet IsOwn refusal
+PlanMayFail (OverBoth sheet which name IsOwn work) told refusal =
+    MayRefuse (IsSheetOr which sheet told) IsOwn refusal
 
--- a sheet is read; and then another file, which is so only where the bytes of the first are a sheet
-abbrev pub IsSheet : Source → Type 0
-IsSheet which = which ≡ source.Sheet
+abbrev pub MayFail : Option Asked → Option Files → Refusal → Type 0
+MayFail None told refusal = refusal ≡ Usage
+MayFail (Some asked) told refusal = PlanMayFail (plan_of asked) told refusal
 
-abbrev pub IsSheetOr : Source → List ℕ → Option Files → Source → Type 0
-IsSheetOr other sheet told which = (which ≡ source.Sheet) ⊎ ((which ≡ other) × IfTold told (λ files. IsOk (sheet_in sheet files)))
+-- what a text says of the bytes that were read, by this part of the work over them
+abbrev pub PlanSays : (Work → List ℕ → Type 0) → Plan → Option Files → List Event → List Event →
+    List ℕ → Type 0
+PlanSays Part (Alone IsOwn work) told before now text = Part work text
+PlanSays Part (OverSheet name IsOwn work) told before now text =
+    OfOneFile name told before now (λ parts. Part (work parts) text)
+PlanSays Part (OverBoth sheet which name IsOwn work) told before now text =
+    OfTwoFiles sheet which name told before now (λ parts bytes. Part (work parts bytes) text)
 
-abbrev pub IsNoRefusal : Refusal → Type 0
-IsNoRefusal refusal = ⊥
+-- what status 0 says of the bytes that were read and of the text
+abbrev pub Headline : Option Asked → Option Files → List Event → List Event → List ℕ → Type 0
+Headline None told before now text = ⊥
+Headline (Some asked) told before now text =
+    PlanSays (λ work. work.holds) (plan_of asked) told before now text
 
-abbrev pub IsPointsRefusal : Refusal → Type 0
-IsPointsRefusal refusal = (name : List ℕ) × (refusal ≡ Points name)
-
-abbrev pub IsRunRefusal : Refusal → Type 0
-IsRunRefusal refusal = (refusal ≡ Jobs) ⊎ (refusal ≡ Segments)
-
--- which refusals a command can give
-abbrev pub MayAskedFail : Option Asked → Option Files → Refusal → Type 0
-MayAskedFail None told refusal = refusal ≡ Usage
-MayAskedFail (Some (CheckOf sheet certificate deadlines)) told refusal = MayRefuse (IsSheetOr source.Certificate sheet told) IsNoRefusal refusal
-MayAskedFail (Some (AnalyseOf sheet horizon)) told refusal = MayRefuse IsSheet IsPointsRefusal refusal
-MayAskedFail (Some (SimulateOf sheet mode ticks)) told refusal = MayRefuse IsSheet IsRunRefusal refusal
-MayAskedFail (Some (AuditOf sheet run)) told refusal = MayRefuse (IsSheetOr source.Run sheet told) IsNoRefusal refusal
-MayAskedFail (Some (ReportOf sheet certificate form)) told refusal = MayRefuse (IsSheetOr source.Certificate sheet told) IsNoRefusal refusal
-MayAskedFail (Some (ExerciseOf seed tasks)) told refusal = refusal ≡ Memory
-
-abbrev pub MayFail : List (List ℕ) → Option Files → Refusal → Type 0
-MayFail words told refusal = MayAskedFail (command_in words) told refusal
+-- what status 1 says of them; simulate and exercise never answer it
+abbrev pub Objection : Option Asked → Option Files → List Event → List Event → List ℕ → Type 0
+Objection None told before now text = ⊥
+Objection (Some asked) told before now text =
+    PlanSays (λ work. work.fails) (plan_of asked) told before now text

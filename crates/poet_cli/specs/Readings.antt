@@ -18,11 +18,14 @@ pub record ShelfAt : Type 0 where
   -- what its calls answered and handed over
   pub log : List Event
 
-abbrev pub shelf_at : {S : Type 0} → (S → Option Files) → (S → ℕ) → (S → Bool) → (S → List Event) → S → ShelfAt
-shelf_at files faults is_open log shelf = record { files = files shelf; faults = faults shelf; is_open = is_open shelf; log = log shelf }
+abbrev pub shelf_at : {S : Type 0} → (S → Option Files) → (S → ℕ) → (S → Bool) → (S → List Event) →
+    S → ShelfAt
+shelf_at files faults is_open log shelf =
+    record { files = files shelf; faults = faults shelf; is_open = is_open shelf; log = log shelf }
 
 -- the file was opened once and read to its end, which gave these bytes, within the limit of its kind
-pub record WasRead (which : Source) (name : List ℕ) (told : Option Files) (before now : List Event) (bytes : List ℕ) : Type 0 where
+pub record WasRead (which : Source) (name : List ℕ) (told : Option Files) (before now : List Event)
+    (bytes : List ℕ) : Type 0 where
   pub few : length bytes ≤ limit_of which
   pub calls : ReadToEnd name bytes before now
   pub is_told : IfTold told (λ files. files name ≡ Some bytes)
@@ -34,7 +37,8 @@ pub record WasNotRead (which : Source) (name : List ℕ) (before now : ShelfAt) 
   pub closed : now.is_open ≡ false
 
 abbrev pub IsLongerThan : ℕ → List ℕ → Files → Type 0
-IsLongerThan limit name files = (bytes : List ℕ) × (files name ≡ Some bytes) × (limit < length bytes)
+IsLongerThan limit name files =
+    (bytes : List ℕ) × (files name ≡ Some bytes) × (limit < length bytes)
 
 -- the file was read to one byte past the limit of its kind
 pub record WasTooLong (which : Source) (name : List ℕ) (before now : ShelfAt) : Type 0 where
@@ -43,10 +47,12 @@ pub record WasTooLong (which : Source) (name : List ℕ) (before now : ShelfAt) 
 
 -- the calls of a reading that gave this
 abbrev pub ReadCalls : Source → List ℕ → ShelfAt → ShelfAt → Result (List ℕ) Refusal → Type 0
-ReadCalls which name before now (Ok bytes) = WasRead which name before.files before.log now.log bytes
+ReadCalls which name before now (Ok bytes) =
+    WasRead which name before.files before.log now.log bytes
 ReadCalls which name before now (Err (Read at)) = (at ≡ which) × WasNotRead which name before now
 ReadCalls which name before now (Err (Limit at)) = (at ≡ which) × WasTooLong which name before now
-ReadCalls which name before now (Err Memory) = ReadUntil name (limit_of which) before.log now.log stop.Memory
+ReadCalls which name before now (Err Memory) =
+    ReadUntil name (limit_of which) before.log now.log stop.Memory
 ReadCalls which name before now (Err Usage) = ⊥
 ReadCalls which name before now (Err (Sheet refusal)) = ⊥
 ReadCalls which name before now (Err (Text at line)) = ⊥
@@ -55,7 +61,8 @@ ReadCalls which name before now (Err Jobs) = ⊥
 ReadCalls which name before now (Err Segments) = ⊥
 
 -- one reading of a file gave this
-pub record IsFileReading (which : Source) (name : List ℕ) (before now : ShelfAt) (gave : Result (List ℕ) Refusal) : Type 0 where
+pub record IsFileReading (which : Source) (name : List ℕ) (before now : ShelfAt)
+    (gave : Result (List ℕ) Refusal) : Type 0 where
   pub files : now.files ≡ before.files
   pub later : before.faults ≤ now.faults
   pub calls : ReadCalls which name before now gave

@@ -40,14 +40,23 @@ line_at first second third place = first ++ (second ++ (third ++ (place_text pla
 -- the line of a sheet's refusal
 abbrev pub sheet_line : SheetRefusal → List ℕ
 sheet_line sheet.Text = codes "sheet: not a TOML document\n"
-sheet_line (sheet.Unknown place) = line_at (codes "sheet: unknown key in ") (codes "") (codes "") place
-sheet_line (sheet.Missing place field) = line_at (codes "sheet: missing ") (field_word field) (codes " in ") place
-sheet_line (sheet.Kind place field) = line_at (codes "sheet: wrong kind of ") (field_word field) (codes " in ") place
-sheet_line (sheet.Range place field) = line_at (codes "sheet: ") (field_word field) (codes " out of range in ") place
-sheet_line (sheet.Order place field) = line_at (codes "sheet: ") (field_word field) (codes " out of order in ") place
-sheet_line (sheet.Both task) = line_at (codes "sheet: both period and curve in ") (codes "") (codes "") (places.Task task)
-sheet_line (sheet.Twice task) = line_at (codes "sheet: name repeated in ") (codes "") (codes "") (places.Task task)
-sheet_line (sheet.Sum task) = line_at (codes "sheet: preemption does not fit cost in ") (codes "") (codes "") (places.Task task)
+sheet_line (sheet.Unknown place) =
+    line_at (codes "sheet: unknown key in ") (codes "") (codes "") place
+sheet_line (sheet.Missing place field) =
+    line_at (codes "sheet: missing ") (field_word field) (codes " in ") place
+sheet_line (sheet.Kind place field) =
+    line_at (codes "sheet: wrong kind of ") (field_word field) (codes " in ") place
+sheet_line (sheet.Range place field) =
+    line_at (codes "sheet: ") (field_word field) (codes " out of range in ") place
+sheet_line (sheet.Order place field) =
+    line_at (codes "sheet: ") (field_word field) (codes " out of order in ") place
+sheet_line (sheet.Both task) =
+    line_at (codes "sheet: both period and curve in ") (codes "") (codes "") (places.Task task)
+sheet_line (sheet.Twice task) =
+    line_at (codes "sheet: name repeated in ") (codes "") (codes "") (places.Task task)
+sheet_line (sheet.Sum task) =
+    line_at (codes "sheet: preemption does not fit cost in ") (codes "") (codes "")
+    (places.Task task)
 sheet_line sheet.Memory = codes "memory\n"
 
 abbrev pub source_word : Source → List ℕ
@@ -62,7 +71,9 @@ limit_of source.Certificate = 67108864
 limit_of source.Run = 67108864
 
 abbrev pub limit_line : Source → List ℕ
-limit_line which = codes "limit: " ++ (source_word which ++ (codes " is longer than " ++ (decimal (limit_of which) ++ codes " bytes\n")))
+limit_line which =
+    codes "limit: " ++
+    (source_word which ++ (codes " is longer than " ++ (decimal (limit_of which) ++ codes " bytes\n")))
 
 abbrev pub points_line : List ℕ → List ℕ
 points_line name = codes "limit: points exceed 1000000 at task " ++ (name ++ codes "\n")
@@ -70,10 +81,17 @@ points_line name = codes "limit: points exceed 1000000 at task " ++ (name ++ cod
 -- the line of statuses 2, 3 and 5 to 8
 unfoldable pub line_of : Refusal → List ℕ
 line_of Usage =
-    codes "usage: poet check SHEET CERT [deadlines] | analyse SHEET HORIZON | simulate SHEET dense N | simulate SHEET seed S N | audit SHEET RUN | report SHEET CERT text|json | exercise S N\n"
+    codes "usage: poet check SHEET CERT [deadlines]"
+    ++ (codes " | analyse SHEET HORIZON"
+    ++ (codes " | simulate SHEET dense N | simulate SHEET seed S N"
+    ++ (codes " | audit SHEET RUN"
+    ++ (codes " | report SHEET CERT text|json"
+    ++ (codes " | exercise S N"
+    ++ codes "\n")))))
 line_of (Read which) = codes "read failed: " ++ (source_word which ++ codes "\n")
 line_of (Sheet refusal) = sheet_line refusal
-line_of (Text which line) = source_word which ++ (codes ": line " ++ (decimal line ++ codes " is not of the format\n"))
+line_of (Text which line) =
+    source_word which ++ (codes ": line " ++ (decimal line ++ codes " is not of the format\n"))
 line_of (Limit which) = limit_line which
 line_of (Points name) = points_line name
 line_of Jobs = codes "limit: jobs exceed 20000\n"

@@ -1,7 +1,5 @@
 -- The answers of the commands over runs.
 use Rattle.std.specs.Prelude.{◌≡◌, ℕ, List, Result, Ok, Err}
-use Rattle.poet_io.specs.declared.text_refusal.TextRefusal.{TextRefusal}
-use Rattle.poet_io.specs.declared.text_refusal.TextRefusal.TheVariants as texts
 use Rattle.task_sheet.specs.SheetParts.{SheetParts}
 use Rattle.policy_more.specs.Meanings.{meaning_of}
 use Rattle.preemption.specs.Kinds.{per_task_meaning}
@@ -17,15 +15,16 @@ use Rattle.simulator.specs.Simulations.{simulation_of}
 use Rattle.audit.specs.declared.verdict.AuditVerdict.{AuditVerdict}
 use Rattle.audit.specs.Verdicts.{verdict_of}
 use Rattle.poet_cli.specs.declared.refusal.Source.TheVariants as source
-use Rattle.poet_cli.specs.declared.refusal.Refusal.{Refusal}
-use Rattle.poet_cli.specs.declared.refusal.Refusal.TheVariants.{Usage, Read, Sheet, Text, Limit, Points, Jobs, Segments, Memory}
+use Rattle.poet_cli.specs.declared.refusal.Refusal.TheVariants.{Jobs, Segments, Memory}
 use Rattle.poet_cli.specs.declared.printed.Printed.TheVariants as printed
 use Rattle.poet_cli.specs.Endings.{Ending, next}
+use Rattle.poet_cli.specs.Answers.{text_read}
 use Rattle.poet_cli.specs.RunPrinting.{audit_print}
 
 -- what a sheet is simulated for: its own policy, preemption and supply
 abbrev pub world_for : SheetParts → Mode → World
-world_for sheet mode = world_of (meaning_of sheet.policy) per_task_meaning (sbf_of sheet.supply) sheet mode
+world_for sheet mode =
+    world_of (meaning_of sheet.policy) per_task_meaning (sbf_of sheet.supply) sheet mode
 
 abbrev pub simulated_by : Result Run SimRefusal → Ending
 simulated_by (Ok run) = Ok (printed.Done (text_of run))
@@ -37,15 +36,13 @@ simulated_by (Err simulator.Memory) = Err Memory
 abbrev pub simulate_by : Mode → ℕ → SheetParts → Ending
 simulate_by mode ticks sheet = simulated_by (simulation_of (world_for sheet mode) ticks)
 
-abbrev pub run_read : Result Run TextRefusal → Result Run Refusal
-run_read (Ok run) = Ok run
-run_read (Err (texts.Line line)) = Err (Text source.Run line)
-run_read (Err texts.Memory) = Err Memory
-
 -- the verdict on a run, by the sheet's own policy, preemption and supply
 abbrev pub audit_for : SheetParts → Run → AuditVerdict
-audit_for sheet run = verdict_of (meaning_of sheet.policy) per_task_meaning (sbf_of sheet.supply) sheet run
+audit_for sheet run =
+    verdict_of (meaning_of sheet.policy) per_task_meaning (sbf_of sheet.supply) sheet run
 
 -- the answer of `audit` over a sheet and the bytes of a run
 abbrev pub audit_by : SheetParts → List ℕ → Ending
-audit_by sheet bytes = next (run_read (run_of_text bytes)) (λ run. Ok (audit_print sheet (audit_for sheet run)))
+audit_by sheet bytes =
+    next (text_read source.Run (run_of_text bytes))
+    (λ run. Ok (audit_print sheet (audit_for sheet run)))

@@ -1,4 +1,5 @@
-use Rattle.std.specs.Prelude.{◌≡◌, ◌≤◌, ◌&&◌, List, [], ◌∷◌, ℕ, Bool, true, false, Option, Some, None, codes, bytes_eq, if◌then◌else◌}
+use Rattle.std.specs.Prelude.{◌≡◌, ◌≤◌, ◌&&◌, List, [], ◌∷◌, ℕ, Bool, true, false, Option, Some, None, String, string_bytes, map, codes, bytes_eq, if◌then◌else◌}
+use Rattle.std.specs.declared.alloc.Global.{Global}
 use Rattle.lists.specs.Limits.{greatest_number, most_ticks}
 use Rattle.poet_io.specs.Decimals.{number_in}
 use Rattle.simulated_run.specs.declared.mode.Mode.{Mode}
@@ -32,7 +33,9 @@ seed_in word = number_in 0 18446744073709551615 word
 
 -- the form of a report that a word names
 abbrev pub form_in : List ℕ → Option Form
-form_in word = if bytes_eq word (codes "text") then Some forms.Text else (if bytes_eq word (codes "json") then Some forms.Json else None)
+form_in word =
+    if bytes_eq word (codes "text") then Some forms.Text
+    else (if bytes_eq word (codes "json") then Some forms.Json else None)
 
 -- what is asked for, where the word before it was read
 abbrev pub given : {A : Type 0} → Option A → (A → Asked) → Option Asked
@@ -40,11 +43,16 @@ given None asked = None
 given (Some x) asked = Some (asked x)
 
 abbrev pub check_in : List ℕ → List ℕ → List ℕ → Option Asked
-check_in sheet certificate last = if bytes_eq last (codes "deadlines") then Some (CheckOf sheet certificate true) else None
+check_in sheet certificate last =
+    if bytes_eq last (codes "deadlines") then Some (CheckOf sheet certificate true) else None
 
 abbrev pub exercise_in : Option ℕ → Option ℕ → Option Asked
 exercise_in None tasks = None
 exercise_in (Some seed) tasks = given tasks (ExerciseOf seed)
+
+abbrev pub dense_in : List ℕ → List ℕ → Option ℕ → Option Asked
+dense_in sheet mode ticks =
+    if bytes_eq mode (codes "dense") then given ticks (SimulateOf sheet Dense) else None
 
 abbrev pub seeded_in : List ℕ → Option ℕ → Option ℕ → Option Asked
 seeded_in sheet None ticks = None
@@ -62,13 +70,14 @@ two_words command first second =
 unfoldable pub three_words : List ℕ → List ℕ → List ℕ → List ℕ → Option Asked
 three_words command first second third =
     if bytes_eq command (codes "check") then check_in first second third
-    else (if bytes_eq command (codes "simulate") then (if bytes_eq second (codes "dense") then given (ticks_in third) (SimulateOf first Dense) else None)
+    else (if bytes_eq command (codes "simulate") then dense_in first second (ticks_in third)
     else (if bytes_eq command (codes "report") then given (form_in third) (ReportOf first second) else None))
 
 -- simulate SHEET seed S N
 unfoldable pub four_words : List ℕ → List ℕ → List ℕ → List ℕ → List ℕ → Option Asked
 four_words command first second third fourth =
-    if bytes_eq command (codes "simulate") && bytes_eq second (codes "seed") then seeded_in first (seed_in third) (ticks_in fourth) else None
+    if bytes_eq command (codes "simulate") && bytes_eq second (codes "seed")
+    then seeded_in first (seed_in third) (ticks_in fourth) else None
 
 -- the word grammar
 abbrev pub command_in : List (List ℕ) → Option Asked
@@ -76,6 +85,10 @@ command_in (command ∷ first ∷ second ∷ []) = two_words command first secon
 command_in (command ∷ first ∷ second ∷ third ∷ []) = three_words command first second third
 command_in (command ∷ first ∷ second ∷ third ∷ fourth ∷ []) = four_words command first second third fourth
 command_in words = None
+
+-- what the program's words ask for
+abbrev pub asked_in : List (String Global) → Option Asked
+asked_in words = command_in (map string_bytes words)
 
 abbrev pub asked_by : Command → Asked
 asked_by (Check sheet certificate deadlines) = CheckOf sheet.now certificate.now deadlines

@@ -1,56 +1,22 @@
 //! How `analyse` ends.
-ghost use Rattle.std.specs.Prelude.{◌≡◌, ◌≤◌, IfOk, IfErr};
+ghost use Rattle.std.specs.Prelude.{◌≡◌, ◌≤◌, IfOk};
 ghost use Rattle.lists.specs.Limits.{greatest_number};
-ghost use Rattle.policy.specs.PolicyMeaning.{PolicyMeaning};
-ghost use Rattle.policy_more.specs.Meanings.{meaning_of};
-ghost use Rattle.preemption.specs.Kinds.{per_task_meaning};
-ghost use Rattle.supply.specs.Promises.{sbf_of};
 ghost use Rattle.task_sheet.specs.Sheets.{task_at};
-ghost use Rattle.solver.specs.Outcome.{IsBestAnswer};
-ghost use Rattle.poet_cli.specs.Analyses.{IsBestBy, IsNoneBy};
 ghost use Rattle.poet_cli.specs.Readings.{shelf_at};
 ghost use Rattle.poet_cli.specs.Steps.{OneFile};
-ghost use Rattle.poet_cli.specs.Program.{AnalyseDoes};
+ghost use Rattle.poet_cli.specs.Works.{AnalyseDoes};
 
-use crate::printed::Printed;
+use crate::on_sheet::best;
+use crate::printed::{Ending, Printed};
 use crate::printing::{name_at, no_bound};
 use crate::reading::sheet_at;
 use crate::refusal::Refusal;
-use cert_check::accepted_is_sound;
-use certificate::{Cert, write_cert};
+use certificate::write_cert;
 use lists::{Items, Text};
 use poet_io::Shelf;
-use policy::Policy;
-use policy_more::by_policy;
-use preemption::PerTask;
-use solver::{AnalyseRefusal, analyse};
+use solver::AnalyseRefusal;
 use std::alloc::{AllocError, Global};
-use supply::Supply;
 use task_sheet::Sheet;
-
-/// The best certificate by a policy, and the sheet's own preemption and supply.
-fn best_by<P: Policy>(alloc: Global, sheet: &Sheet, horizon: u64) -> Result<Cert, AnalyseRefusal>
-    requires { horizon ≤ greatest_number }
-    ensures exact { IsBestAnswer P.meaning per_task_meaning (sbf_of sheet.now.supply) sheet.now horizon result }
-    ensures best { IfOk result (IsBestBy P.meaning sheet.now horizon) }
-    ensures none { IfErr result (IsNoneBy P.meaning sheet.now horizon) }
-{
-    // what the clauses rest on
-    let _valid = sheet.len();
-    sheet.known();
-    accepted_is_sound::<P, PerTask, Sheet>();
-    analyse::<P, PerTask, Sheet>(alloc, sheet, sheet, horizon)
-}
-
-/// The best certificate by the sheet's own policy, preemption and supply.
-fn best(alloc: Global, sheet: &Sheet, horizon: u64) -> Result<Cert, AnalyseRefusal>
-    requires { horizon ≤ greatest_number }
-    ensures exact { IsBestAnswer (meaning_of sheet.now.policy) per_task_meaning (sbf_of sheet.now.supply) sheet.now horizon result }
-    ensures best { IfOk result (IsBestBy (meaning_of sheet.now.policy) sheet.now horizon) }
-    ensures none { IfErr result (IsNoneBy (meaning_of sheet.now.policy) sheet.now horizon) }
-{
-    by_policy!(sheet.policy() => best_by::<_>(alloc, sheet, horizon))
-}
 
 /// A copy of a task's name.
 fn name_of(alloc: Global, sheet: &Sheet, task: u32) -> Result<Text, AllocError>
@@ -60,7 +26,7 @@ fn name_of(alloc: Global, sheet: &Sheet, task: u32) -> Result<Text, AllocError>
 }
 
 /// What the analysis of a sheet comes to.
-fn analysis(alloc: Global, sheet: &Sheet, horizon: u64) -> Result<Printed, Refusal>
+fn analysis(alloc: Global, sheet: &Sheet, horizon: u64) -> Ending
     requires { horizon ≤ greatest_number }
     ensures { AnalyseDoes horizon sheet.now result }
 {
@@ -83,12 +49,7 @@ fn analysis(alloc: Global, sheet: &Sheet, horizon: u64) -> Result<Printed, Refus
 
 /// How `analyse` ends.
 #[tactic(auto, using(crate::proofs::StepFacts::one_no_sheet, crate::proofs::StepFacts::one_read))]
-pub fn analyse_ending<H: Shelf>(
-    alloc: Global,
-    sheet: &str,
-    horizon: u64,
-    shelf: &mut H,
-) -> Result<Printed, Refusal>
+pub fn analyse_ending<H: Shelf>(alloc: Global, sheet: &str, horizon: u64, shelf: &mut H) -> Ending
     requires { horizon ≤ greatest_number }
     ensures { OneFile sheet.now (AnalyseDoes horizon)
         (shelf_at H.files H.faults H.is_open H.log shelf.old)

@@ -1,9 +1,9 @@
 //! How `exercise` ends.
 ghost use Rattle.std.specs.Prelude.{◌≡◌, ◌≤◌, IfOk};
 ghost use Rattle.poet_cli.specs.ExerciseAnswers.{exercise_line};
-ghost use Rattle.poet_cli.specs.Program.{ExerciseDoes};
+ghost use Rattle.poet_cli.specs.Works.{ExerciseDoes};
 
-use crate::printed::Printed;
+use crate::printed::{Ending, Printed};
 use crate::printing::push_counted;
 use crate::refusal::Refusal;
 use exercise::{Exercise, exercise};
@@ -28,7 +28,7 @@ fn line_of(alloc: Global, seed: u64, tasks: u32, one: &Exercise) -> Result<Items
 }
 
 /// How `exercise` ends.
-pub fn exercise_ending(alloc: Global, seed: u64, tasks: u32) -> Result<Printed, Refusal>
+pub fn exercise_ending(alloc: Global, seed: u64, tasks: u32) -> Ending
     requires some { 1 ≤ tasks }
     requires few { tasks ≤ 64 }
     ensures { ExerciseDoes seed tasks result }

@@ -98,7 +98,8 @@ fn exercise_of<'a>(seed: &str, tasks: &str) -> Option<Command<'a>>
 }
 
 fn dense_of<'a>(sheet: &'a str, ticks: &str) -> Option<Command<'a>>
-    ensures defined { IsAsked (given (ticks_in ticks.now) (SimulateOf sheet.now Mode.Dense)) result }
+    ensures defined { IsAsked
+        (given (ticks_in ticks.now) (SimulateOf sheet.now Mode.Dense)) result }
     ensures in_range { IfSome result IsInRange }
 {
     let ticks = read_number_in(ticks.as_bytes(), 1, MOST_TICKS)?;
@@ -107,7 +108,8 @@ fn dense_of<'a>(sheet: &'a str, ticks: &str) -> Option<Command<'a>>
 }
 
 fn seeded_of<'a>(sheet: &'a str, seed: &str, ticks: &str) -> Option<Command<'a>>
-    ensures defined { IsAsked (seeded_in sheet.now (seed_in seed.now) (ticks_in ticks.now)) result }
+    ensures defined { IsAsked
+        (seeded_in sheet.now (seed_in seed.now) (ticks_in ticks.now)) result }
     ensures in_range { IfSome result IsInRange }
 {
     let seed = read_number_in(seed.as_bytes(), 0, u64::MAX)?;
@@ -117,7 +119,8 @@ fn seeded_of<'a>(sheet: &'a str, seed: &str, ticks: &str) -> Option<Command<'a>>
 }
 
 fn report_of<'a>(sheet: &'a str, certificate: &'a str, form: &str) -> Option<Command<'a>>
-    ensures defined { IsAsked (given (form_in form.now) (ReportOf sheet.now certificate.now)) result }
+    ensures defined { IsAsked
+        (given (form_in form.now) (ReportOf sheet.now certificate.now)) result }
     ensures in_range { IfSome result IsInRange }
 {
     let form = form_of(form)?;
@@ -192,7 +195,8 @@ fn command_of_four<'a>(
     third: &str,
     fourth: &str,
 ) -> Option<Command<'a>>
-    ensures defined { IsAsked (four_words command.now first.now second.now third.now fourth.now) result }
+    ensures defined { IsAsked
+        (four_words command.now first.now second.now third.now fourth.now) result }
     ensures in_range { IfSome result IsInRange }
 {
     if command == "simulate" && second == "seed" {

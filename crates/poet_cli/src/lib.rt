@@ -7,14 +7,15 @@ mod auditing;
 mod exercising;
 mod grammar;
 mod judging;
+mod on_sheet;
 mod printed;
 mod printing;
 mod reading;
 mod refusal;
-mod reporting;
 mod run_printing;
 mod simulating;
 mod telling;
 mod top;
+mod viewing;
 
 pub use top::poet_run;

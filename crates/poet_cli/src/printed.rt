@@ -1,4 +1,5 @@
-//! What a command prints.
+//! How a command ends.
+use crate::refusal::Refusal;
 use lists::Items;
 
 /// The text that a command prints, made in memory.
@@ -9,3 +10,6 @@ pub enum Printed {
     /// It judged no, with status 1.
     JudgedNo(Items<u8>),
 }
+
+/// How a command ends: a status with its text, or a refusal.
+pub type Ending = Result<Printed, Refusal>;

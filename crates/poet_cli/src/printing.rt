@@ -48,7 +48,8 @@ fn push_bound(out: &mut Vec<u8>, task: &Task, bound: u64) -> Result<(), AllocErr
 /// Appends a line for each task.
 fn push_bounds(out: &mut Vec<u8>, sheet: &Sheet, bounds: &[u64]) -> Result<(), AllocError>
     requires { length bounds.now ≡ length sheet.now.tasks }
-    ensures { OnOk result (out.new.items ≡ out.old.items ++ bounds_text sheet.now.tasks bounds.now) }
+    ensures { OnOk result
+        (out.new.items ≡ out.old.items ++ bounds_text sheet.now.tasks bounds.now) }
 {
     for i in 0..sheet.len() {
         push_bound(out, sheet.task(i), bounds[i as usize])?;

@@ -2,15 +2,19 @@
 ghost use Rattle.std.specs.Prelude.{◌≡◌, ◌++◌, ◌≤◌, ℕ, Ok, Err, OnOk, OnErr, Result, take, codes, decimal};
 ghost use Rattle.poet_io.specs.Sinks.{Wrote, Appended, WroteLine};
 ghost use Rattle.poet_cli.specs.Refusals.{field_word as field_word_of, place_text, line_at, sheet_line, limit_line, points_line, line_of, write_failed, refusal_status};
-ghost use Rattle.poet_cli.specs.Clauses.{Finished, Told};
+ghost use Rattle.poet_cli.specs.Clauses.{outlets, Finished, Told};
 
-use crate::printed::Printed;
+use crate::printed::{Ending, Printed};
 use crate::refusal::{Refusal, Source};
 use poet_io::{Sink, SinkFault, put_number, write_all, write_parts};
 use task_sheet::{Field, Place, SheetRefusal};
 
-const USAGE: &str =
-    "usage: poet check SHEET CERT [deadlines] | analyse SHEET HORIZON | simulate SHEET dense N | simulate SHEET seed S N | audit SHEET RUN | report SHEET CERT text|json | exercise S N\n";
+const USAGE: &str = "usage: poet check SHEET CERT [deadlines] \
+    | analyse SHEET HORIZON \
+    | simulate SHEET dense N | simulate SHEET seed S N \
+    | audit SHEET RUN \
+    | report SHEET CERT text|json \
+    | exercise S N\n";
 
 #[tactic(auto, unfolding(crate::specs::Refusals::field_word))]
 fn field_word(field: Field) -> &'static str
@@ -57,7 +61,9 @@ fn write_six<'a, O: Sink>(
     fifth: &'a [u8],
     sixth: &'a [u8],
 ) -> Result<(), SinkFault>
-    ensures { Wrote (O.written out.old) (O.written out.new) (O.faults out.old) (O.faults out.new) (first.now ++ (second.now ++ (third.now ++ (fourth.now ++ (fifth.now ++ sixth.now))))) result }
+    ensures { Wrote (O.written out.old) (O.written out.new) (O.faults out.old) (O.faults out.new)
+        (first.now ++ (second.now ++ (third.now ++ (fourth.now ++ (fifth.now ++ sixth.now)))))
+        result }
 {
     write_parts(out, &[first, second, third, fourth, fifth, sixth])
 }
@@ -71,7 +77,8 @@ fn write_at<E: Sink>(
     third: &str,
     place: Place,
 ) -> Result<(), SinkFault>
-    ensures { Wrote (E.written err.old) (E.written err.new) (E.faults err.old) (E.faults err.new) (line_at first.now second.now third.now place) result }
+    ensures { Wrote (E.written err.old) (E.written err.new) (E.faults err.old) (E.faults err.new)
+        (line_at first.now second.now third.now place) result }
 {
     let mut digits = [0; 20];
     let (word, len) = put_place(place, &mut digits);
@@ -86,65 +93,54 @@ fn write_at<E: Sink>(
     )
 }
 
+/// Two pieces about a field, and a place.
+fn write_field<E: Sink>(
+    err: &mut E,
+    first: &str,
+    field: Field,
+    third: &str,
+    place: Place,
+) -> Result<(), SinkFault>
+    ensures { Wrote (E.written err.old) (E.written err.new) (E.faults err.old) (E.faults err.new)
+        (line_at first.now (field_word_of field) third.now place) result }
+{
+    write_at(err, first, field_word(field), third, place)
+}
+
 fn write_sheet_refusal<E: Sink>(refusal: SheetRefusal, err: &mut E) -> Result<(), SinkFault>
-    ensures { Wrote (E.written err.old) (E.written err.new) (E.faults err.old) (E.faults err.new) (sheet_line refusal) result }
+    ensures { Wrote (E.written err.old) (E.written err.new) (E.faults err.old) (E.faults err.new)
+        (sheet_line refusal) result }
 {
     match refusal {
         SheetRefusal::Text => write_all(err, "sheet: not a TOML document\n".as_bytes()),
         SheetRefusal::Unknown { place } => write_at(err, "sheet: unknown key in ", "", "", place),
         SheetRefusal::Missing { place, field } => {
-            write_at(err, "sheet: missing ", field_word(field), " in ", place)
+            write_field(err, "sheet: missing ", field, " in ", place)
         }
         SheetRefusal::Kind { place, field } => {
-            write_at(
-                err,
-                "sheet: wrong kind of ",
-                field_word(field),
-                " in ",
-                place,
-            )
+            write_field(err, "sheet: wrong kind of ", field, " in ", place)
         }
         SheetRefusal::Range { place, field } => {
-            write_at(
-                err,
-                "sheet: ",
-                field_word(field),
-                " out of range in ",
-                place,
-            )
+            write_field(err, "sheet: ", field, " out of range in ", place)
         }
         SheetRefusal::Order { place, field } => {
-            write_at(
-                err,
-                "sheet: ",
-                field_word(field),
-                " out of order in ",
-                place,
-            )
+            write_field(err, "sheet: ", field, " out of order in ", place)
         }
-        SheetRefusal::Both { task } => {
-            write_at(
-                err,
-                "sheet: both period and curve in ",
-                "",
-                "",
-                Place::Task(task),
-            )
-        }
-        SheetRefusal::Twice { task } => {
-            write_at(err, "sheet: name repeated in ", "", "", Place::Task(task))
-        }
+        SheetRefusal::Both { task } => { write_task(err, "sheet: both period and curve in ", task) }
+        SheetRefusal::Twice { task } => write_task(err, "sheet: name repeated in ", task),
         SheetRefusal::Sum { task } => {
-            write_at(
-                err,
-                "sheet: preemption does not fit cost in ",
-                "",
-                "",
-                Place::Task(task),
-            )
+            write_task(err, "sheet: preemption does not fit cost in ", task)
         }
         SheetRefusal::Memory => write_all(err, "memory\n".as_bytes()),
     }
+}
+
+/// A piece and a task.
+fn write_task<E: Sink>(err: &mut E, first: &str, task: u32) -> Result<(), SinkFault>
+    ensures { Wrote (E.written err.old) (E.written err.new) (E.faults err.old) (E.faults err.new)
+        (line_at first.now (codes "") (codes "") (Place.Task task)) result }
+{
+    write_at(err, first, "", "", Place::Task(task))
 }
 
 /// Two pieces, a number and a third piece.
@@ -155,7 +151,8 @@ fn write_number<E: Sink>(
     n: u64,
     third: &str,
 ) -> Result<(), SinkFault>
-    ensures { Wrote (E.written err.old) (E.written err.new) (E.faults err.old) (E.faults err.new) (first.now ++ (second.now ++ (decimal n ++ third.now))) result }
+    ensures { Wrote (E.written err.old) (E.written err.new) (E.faults err.old) (E.faults err.new)
+        (first.now ++ (second.now ++ (decimal n ++ third.now))) result }
 {
     let mut digits = [0; 20];
     let len = put_number(n, &mut digits);
@@ -169,7 +166,8 @@ fn write_number<E: Sink>(
 }
 
 fn write_limit<E: Sink>(source: Source, err: &mut E) -> Result<(), SinkFault>
-    ensures { Wrote (E.written err.old) (E.written err.new) (E.faults err.old) (E.faults err.new) (limit_line source) result }
+    ensures { Wrote (E.written err.old) (E.written err.new) (E.faults err.old) (E.faults err.new)
+        (limit_line source) result }
 {
     let mut digits = [0; 20];
     let len = put_number(source.limit() as u64, &mut digits);
@@ -185,7 +183,8 @@ fn write_limit<E: Sink>(source: Source, err: &mut E) -> Result<(), SinkFault>
 }
 
 fn write_points<E: Sink>(name: &str, err: &mut E) -> Result<(), SinkFault>
-    ensures { Wrote (E.written err.old) (E.written err.new) (E.faults err.old) (E.faults err.new) (points_line name.now) result }
+    ensures { Wrote (E.written err.old) (E.written err.new) (E.faults err.old) (E.faults err.new)
+        (points_line name.now) result }
 {
     write_three(err, "limit: points exceed 1000000 at task ", name, "\n")
 }
@@ -197,7 +196,8 @@ fn write_three<'a, O: Sink>(
     second: &'a str,
     third: &'a str,
 ) -> Result<(), SinkFault>
-    ensures { Wrote (O.written out.old) (O.written out.new) (O.faults out.old) (O.faults out.new) (first.now ++ (second.now ++ third.now)) result }
+    ensures { Wrote (O.written out.old) (O.written out.new) (O.faults out.old) (O.faults out.new)
+        (first.now ++ (second.now ++ third.now)) result }
 {
     write_parts(
         out,
@@ -213,7 +213,8 @@ fn write_four<'a, O: Sink>(
     third: &'a [u8],
     fourth: &'a [u8],
 ) -> Result<(), SinkFault>
-    ensures { Wrote (O.written out.old) (O.written out.new) (O.faults out.old) (O.faults out.new) (first.now ++ (second.now ++ (third.now ++ fourth.now))) result }
+    ensures { Wrote (O.written out.old) (O.written out.new) (O.faults out.old) (O.faults out.new)
+        (first.now ++ (second.now ++ (third.now ++ fourth.now))) result }
 {
     write_parts(out, &[first, second, third, fourth])
 }
@@ -221,7 +222,8 @@ fn write_four<'a, O: Sink>(
 /// The line of a refusal.
 #[tactic(auto, unfolding(crate::specs::Refusals::line_of))]
 fn write_refusal<E: Sink>(refusal: &Refusal, err: &mut E) -> Result<(), SinkFault>
-    ensures { Wrote (E.written err.old) (E.written err.new) (E.faults err.old) (E.faults err.new) (line_of refusal.now) result }
+    ensures { Wrote (E.written err.old) (E.written err.new) (E.faults err.old) (E.faults err.new)
+        (line_of refusal.now) result }
 {
     match refusal {
         Refusal::Usage => write_all(err, USAGE.as_bytes()),
@@ -252,7 +254,8 @@ fn write_refusal<E: Sink>(refusal: &Refusal, err: &mut E) -> Result<(), SinkFaul
 #[tactic(auto, using(poet_io::proofs::Telling::wrote_line))]
 fn tell_refusal<E: Sink>(refusal: &Refusal, err: &mut E) -> u8
     ensures status { result ≡ refusal_status refusal.now }
-    ensures line { WroteLine (E.written err.old) (E.written err.new) (E.faults err.old) (E.faults err.new) (line_of refusal.now) }
+    ensures line { WroteLine (E.written err.old) (E.written err.new) (E.faults err.old)
+        (E.faults err.new) (line_of refusal.now) }
 {
     let _ = write_refusal(refusal, err);
     refusal.status()
@@ -261,7 +264,8 @@ fn tell_refusal<E: Sink>(refusal: &Refusal, err: &mut E) -> u8
 /// The status of a text that was written, or else 4 and its line.
 #[tactic(auto, using(poet_io::proofs::Telling::wrote_line, poet_io::proofs::Writing::stayed_same), unfolding(crate::specs::Refusals::write_failed))]
 fn finish<E: Sink>(written: Result<(), SinkFault>, status: u8, err: &mut E) -> u8
-    ensures { Finished written status (E.written err.old) (E.written err.new) (E.faults err.old) (E.faults err.new) result }
+    ensures { Finished written status (E.written err.old) (E.written err.new) (E.faults err.old)
+        (E.faults err.new) result }
 {
     match written {
         Ok(()) => status,
@@ -273,10 +277,10 @@ fn finish<E: Sink>(written: Result<(), SinkFault>, status: u8, err: &mut E) -> u
 }
 
 /// Tells how a command ended, and answers its status. Nothing else writes.
-pub fn tell<O: Sink, E: Sink>(ending: &Result<Printed, Refusal>, out: &mut O, err: &mut E) -> u8
+pub fn tell<O: Sink, E: Sink>(ending: &Ending, out: &mut O, err: &mut E) -> u8
     ensures { Told ending.now
-        (record { out = O.written out.old; out_faults = O.faults out.old; err = E.written err.old; err_faults = E.faults err.old })
-        (record { out = O.written out.new; out_faults = O.faults out.new; err = E.written err.new; err_faults = E.faults err.new }) result }
+        (outlets O.written O.faults E.written E.faults out.old err.old)
+        (outlets O.written O.faults E.written E.faults out.new err.new) result }
 {
     match ending {
         Ok(Printed::Done(text)) => finish(write_all(out, text.as_slice()), 0, err),

@@ -8,7 +8,7 @@ use Rattle.poet_cli.proofs.top.poet_run.Goals as goal
 pub returns-clause-answers : goal.returns-clause-answers
 returns-clause-answers g c =
     let does = rw c.deref.ensures.value at c.ending_of-ending.ensures in
-    answers_from _ _ _ _ _ _ _ _ _ _ (does_found _ _ _ _ does) (does_may _ _ _ _ does) c.tell.ensures
+    answers_from _ _ _ _ _ _ _ _ (does_found _ _ _ _ does) (does_may _ _ _ _ does) c.tell.ensures
 
 pub returns-clause-did : goal.returns-clause-did
 returns-clause-did g c =

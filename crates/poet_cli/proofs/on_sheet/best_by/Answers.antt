@@ -1,5 +1,5 @@
 use Rattle.poet_cli.proofs.AnalysisFacts.{best_from}
-use Rattle.poet_cli.proofs.analysing.best_by.Goals as goal
+use Rattle.poet_cli.proofs.on_sheet.best_by.Goals as goal
 
 pub returns-clause-best : goal.returns-clause-best
 returns-clause-best g c =

@@ -1,0 +1,94 @@
+//! What the crates below compute, by a sheet's own policy, preemption and supply. Nothing else
+//! looks at which policy a sheet names.
+ghost use Rattle.std.specs.Prelude.{◌≡◌, ◌≤◌, None, IfOk, IfErr};
+ghost use Rattle.lists.specs.Limits.{greatest_number, most_ticks};
+ghost use Rattle.policy.specs.PolicyMeaning.{PolicyMeaning};
+ghost use Rattle.policy_more.specs.Meanings.{meaning_of};
+ghost use Rattle.preemption.specs.Kinds.{per_task_meaning};
+ghost use Rattle.supply.specs.Promises.{sbf_of};
+ghost use Rattle.certificate.specs.Text.{IsWithinGrammar};
+ghost use Rattle.cert_check.specs.Verdicts.{bounds_of, AreSound};
+ghost use Rattle.run_text.specs.Text.{IsWithinLimits};
+ghost use Rattle.schedule_laws.specs.Compliance.{IsCompliant};
+ghost use Rattle.simulated_run.specs.declared.mode.Mode.TheVariants.{Dense};
+ghost use Rattle.simulated_run.specs.Laws.{IsDense};
+ghost use Rattle.simulator.specs.Simulations.{IsSimulation};
+ghost use Rattle.audit.specs.Verdicts.{TellsCompliance};
+ghost use Rattle.solver.specs.Outcome.{IsBestAnswer};
+ghost use Rattle.poet_cli.specs.Analyses.{IsBestBy, IsNoneBy};
+ghost use Rattle.poet_cli.specs.Answers.{failed_for};
+ghost use Rattle.poet_cli.specs.RunAnswers.{world_for, audit_for};
+
+use audit::{AuditVerdict, audit};
+use cert_check::{accepted_is_sound, judge_cert};
+use certificate::Cert;
+use conditions::Failed;
+use policy::Policy;
+use policy_more::by_policy;
+use preemption::PerTask;
+use run_model::Run;
+use simulated_run::Mode;
+use simulator::{SimRefusal, simulate};
+use solver::{AnalyseRefusal, analyse};
+use std::alloc::{AllocError, Global};
+use supply::Supply;
+use task_sheet::Sheet;
+
+/// The first condition that a certificate fails to meet; with `deadlines` its bounds are to be at
+/// most the deadlines.
+pub fn first_failed(sheet: &Sheet, cert: &Cert, deadlines: bool) -> Option<Failed>
+    requires { IsWithinGrammar cert.now }
+    ensures defined { result ≡ failed_for sheet.now deadlines cert.now }
+    ensures bounded { result ≡ None → AreSound (meaning_of sheet.now.policy) per_task_meaning
+        (sbf_of sheet.now.supply) sheet.now deadlines (bounds_of cert.now) }
+{
+    by_policy!(sheet.policy() => judge_cert::<_, PerTask, Sheet>(sheet, sheet, cert, deadlines))
+}
+
+/// The best certificate by a policy.
+fn best_by<P: Policy>(alloc: Global, sheet: &Sheet, horizon: u64) -> Result<Cert, AnalyseRefusal>
+    requires { horizon ≤ greatest_number }
+    ensures exact { IsBestAnswer P.meaning per_task_meaning (sbf_of sheet.now.supply) sheet.now
+        horizon result }
+    ensures best { IfOk result (IsBestBy P.meaning sheet.now horizon) }
+    ensures none { IfErr result (IsNoneBy P.meaning sheet.now horizon) }
+{
+    // for the proof: the sheet is valid
+    let _valid = sheet.len();
+    sheet.known();
+    accepted_is_sound::<P, PerTask, Sheet>();
+    analyse::<P, PerTask, Sheet>(alloc, sheet, sheet, horizon)
+}
+
+/// The best certificate.
+pub fn best(alloc: Global, sheet: &Sheet, horizon: u64) -> Result<Cert, AnalyseRefusal>
+    requires { horizon ≤ greatest_number }
+    ensures exact { IsBestAnswer (meaning_of sheet.now.policy) per_task_meaning
+        (sbf_of sheet.now.supply) sheet.now horizon result }
+    ensures best { IfOk result (IsBestBy (meaning_of sheet.now.policy) sheet.now horizon) }
+    ensures none { IfErr result (IsNoneBy (meaning_of sheet.now.policy) sheet.now horizon) }
+{
+    by_policy!(sheet.policy() => best_by::<_>(alloc, sheet, horizon))
+}
+
+/// The simulated run.
+pub fn simulation(alloc: Global, sheet: &Sheet, mode: Mode, ticks: u64) -> Result<Run, SimRefusal>
+    requires { ticks ≤ most_ticks }
+    ensures exact { IsSimulation (world_for sheet.now mode) ticks result }
+    ensures complies { IfOk result (IsCompliant (meaning_of sheet.now.policy) per_task_meaning
+        (sbf_of sheet.now.supply) sheet.now) }
+    ensures full { mode ≡ Dense → IfOk result (IsDense sheet.now ticks) }
+    ensures within { IfOk result IsWithinLimits }
+{
+    by_policy!(sheet.policy() => simulate::<_, PerTask, Sheet>(alloc, sheet, sheet, mode, ticks))
+}
+
+/// The verdict on a run.
+pub fn verdict_on(alloc: Global, sheet: &Sheet, run: &Run) -> Result<AuditVerdict, AllocError>
+    requires { IsWithinLimits run.now }
+    ensures exact { IfOk result (λ v. v ≡ audit_for sheet.now run.now) }
+    ensures tells { IfOk result (TellsCompliance (meaning_of sheet.now.policy) per_task_meaning
+        (sbf_of sheet.now.supply) sheet.now run.now) }
+{
+    by_policy!(sheet.policy() => audit::<_, PerTask, Sheet>(alloc, sheet, sheet, run))
+}

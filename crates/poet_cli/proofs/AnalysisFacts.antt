@@ -18,12 +18,15 @@ use Rattle.poet_cli.specs.Analyses.{IsBestBy}
 use Rattle.poet_cli.proofs.LengthFacts.{text_short}
 
 module _ (p : PolicyMeaning) (sheet : SheetParts) (horizon : ℕ) where
-  pub best_from : MeetingIsAccepted p per_task_meaning (sbf_of sheet.supply) → AcceptedIsSound p per_task_meaning (sbf_of sheet.supply) → IsValidSheet sheet → (r : Result Cert AnalyseRefusal) →
+  pub best_from : MeetingIsAccepted p per_task_meaning (sbf_of sheet.supply) →
+      AcceptedIsSound p per_task_meaning (sbf_of sheet.supply) → IsValidSheet sheet → (r : Result Cert AnalyseRefusal) →
       IfOk r (IsBest p per_task_meaning (sbf_of sheet.supply) sheet horizon) →
-      IfOk r (λ cert. failed_of p per_task_meaning (sbf_of sheet.supply) sheet false cert ≡ None) → IfOk r IsWithinGrammar → IfOk r (IsUpTo horizon) → IfOk r (NoneSmaller p per_task_meaning (sbf_of sheet.supply) sheet) →
+      IfOk r (λ cert. failed_of p per_task_meaning (sbf_of sheet.supply) sheet false cert ≡ None) → IfOk r IsWithinGrammar →
+      IfOk r (IsUpTo horizon) → IfOk r (NoneSmaller p per_task_meaning (sbf_of sheet.supply) sheet) →
       IfOk r (IsBestBy p sheet horizon)
   best_from accepts sound valid (Ok cert) best meets within up_to least =
-      let accepted : cert_verdict_of p per_task_meaning (sbf_of sheet.supply) sheet false (text_of cert) ≡ verdict.Accepted (bounds_of cert) = accepts sheet false cert within meets in
+      let accepted : cert_verdict_of p per_task_meaning (sbf_of sheet.supply) sheet false (text_of cert) ≡ verdict.Accepted
+      (bounds_of cert) = accepts sheet false cert within meets in
       record {
         within = within;
         up_to = up_to;

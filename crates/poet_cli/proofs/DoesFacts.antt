@@ -40,15 +40,19 @@ record Gave {A : Type 0} (which : Source) (name : List ℕ) (Ends : List ℕ →
   pub read : WasRead which name before.files before.log now.log bytes
   pub ends : Ends bytes (Ok value)
 
-gave_by : {A : Type 0} (which : Source) (name : List ℕ) (Ends : List ℕ → Result A Refusal → Type 0) (before now : ShelfAt) (value : A) (gave : Result (List ℕ) Refusal) → IsFileReading which name before now gave → After Ends gave (Ok value) → Gave which name Ends before now value
+gave_by : {A : Type 0} (which : Source) (name : List ℕ) (Ends : List ℕ → Result A Refusal → Type 0) (before now : ShelfAt)
+    (value : A) (gave : Result (List ℕ) Refusal) → IsFileReading which name before now gave → After Ends gave (Ok value) → Gave which name Ends before now value
 gave_by which name Ends before now value (Ok bytes) reading after = record { bytes = bytes; read = reading.calls; ends = after }
 gave_by which name Ends before now value (Err refusal) reading after = absurd (cc)
 
-gave_from : {A : Type 0} (which : Source) (name : List ℕ) (Ends : List ℕ → Result A Refusal → Type 0) (before now : ShelfAt) (value : A) → Reads which name Ends before now (Ok value) → Gave which name Ends before now value
+gave_from : {A : Type 0} (which : Source) (name : List ℕ) (Ends : List ℕ → Result A Refusal → Type 0) (before now : ShelfAt)
+    (value : A) → Reads which name Ends before now (Ok value) → Gave which name Ends before now value
 gave_from which name Ends before now value reads = gave_by which name Ends before now value reads.gave reads.reading reads.after
 
-module _ (name : List ℕ) (Ends : SheetParts → Ending → Type 0) (before now : ShelfAt) (print : Printed) (Holds : SheetParts → Type 0) (holds : (parts : SheetParts) → Ends parts (Ok print) → Holds parts) where
-  one_of_by : (gave : Result SheetParts Refusal) → ReadsSheet name before now gave → After Ends gave (Ok print) → OfOneFile name before.files before.log now.log Holds
+module _ (name : List ℕ) (Ends : SheetParts → Ending → Type 0) (before now : ShelfAt) (print : Printed) (Holds : SheetParts →
+    Type 0) (holds : (parts : SheetParts) → Ends parts (Ok print) → Holds parts) where
+  one_of_by : (gave : Result SheetParts Refusal) → ReadsSheet name before now gave → After Ends gave (Ok print) →
+      OfOneFile name before.files before.log now.log Holds
   one_of_by (Ok parts) sheet after =
       let from : Gave source.Sheet name (λ bytes. Gives (sheet_by bytes)) before now parts = gave_from source.Sheet name _ before now parts sheet in
       record { bytes = from.bytes; read = from.read; sheet = parts; is_sheet = sheet_is _ parts from.ends; holds = holds parts after }
@@ -57,11 +61,14 @@ module _ (name : List ℕ) (Ends : SheetParts → Ending → Type 0) (before now
   one_of : OneFile name Ends before now (Ok print) → OfOneFile name before.files before.log now.log Holds
   one_of one = one_of_by one.gave one.sheet one.after
 
-module _ (sheet_name : List ℕ) (which : Source) (name : List ℕ) (Ends : SheetParts → List ℕ → Ending → Type 0) (before now : ShelfAt) (print : Printed) (Holds : SheetParts → List ℕ → Type 0)
+module _ (sheet_name : List ℕ) (which : Source) (name : List ℕ) (Ends : SheetParts → List ℕ → Ending →
+    Type 0) (before now : ShelfAt) (print : Printed) (Holds : SheetParts → List ℕ → Type 0)
     (holds : (parts : SheetParts) (bytes : List ℕ) → Ends parts bytes (Ok print) → Holds parts bytes) where
-  two_of_by : (middle : ShelfAt) (gave : Result SheetParts Refusal) → ReadsSheet sheet_name before middle gave → ReadsNext which name Ends gave middle now (Ok print) → OfTwoFiles sheet_name which name before.files before.log now.log Holds
+  two_of_by : (middle : ShelfAt) (gave : Result SheetParts Refusal) → ReadsSheet sheet_name before middle gave →
+      ReadsNext which name Ends gave middle now (Ok print) → OfTwoFiles sheet_name which name before.files before.log now.log Holds
   two_of_by middle (Ok parts) sheet next =
-      let from : Gave source.Sheet sheet_name (λ bytes. Gives (sheet_by bytes)) before middle parts = gave_from source.Sheet sheet_name _ before middle parts sheet in
+      let from : Gave source.Sheet sheet_name (λ bytes. Gives (sheet_by bytes)) before middle parts =
+      gave_from source.Sheet sheet_name _ before middle parts sheet in
       let other : Gave which name (Ends parts) middle now print = gave_from which name (Ends parts) middle now print next in
       record {
         sheet_bytes = from.bytes;
@@ -137,7 +144,8 @@ pub record Leaves {A : Type 0} (before now : ShelfAt) (result : Result A Refusal
   pub later : before.faults ≤ now.faults
   pub shut : Shut now.is_open result
 
-reading_shut : (which : Source) (name : List ℕ) (before now : ShelfAt) (refusal : Refusal) → IsFileReading which name before now (Err refusal) → Shut {A = Unit {0}} now.is_open (Err refusal)
+reading_shut : (which : Source) (name : List ℕ) (before now : ShelfAt) (refusal : Refusal) →
+    IsFileReading which name before now (Err refusal) → Shut {A = Unit {0}} now.is_open (Err refusal)
 reading_shut which name before now (Read at) reading = reading.calls.1.closed
 reading_shut which name before now (Limit at) reading = tt
 reading_shut which name before now Memory reading = tt
@@ -159,7 +167,8 @@ shut_same A B is_open Jobs shut = tt
 shut_same A B is_open Segments shut = tt
 shut_same A B is_open Memory shut = tt
 
-module _ {A : Type 0} (which : Source) (name : List ℕ) (Ends : List ℕ → Result A Refusal → Type 0) (before now : ShelfAt) (result : Result A Refusal) (answer : List ℕ → Result A Refusal)
+module _ {A : Type 0} (which : Source) (name : List ℕ) (Ends : List ℕ → Result A Refusal → Type 0) (before now : ShelfAt)
+    (result : Result A Refusal) (answer : List ℕ → Result A Refusal)
     (gives : (bytes : List ℕ) → Ends bytes result → Gives (answer bytes) result) where
   reads_shut : (gave : Result (List ℕ) Refusal) → IsFileReading which name before now gave → After Ends gave result → Shut now.is_open result
   reads_shut (Ok bytes) reading after = gives_shut (answer bytes) now.is_open result (gives bytes after)
@@ -169,9 +178,11 @@ module _ {A : Type 0} (which : Source) (name : List ℕ) (Ends : List ℕ → Re
   reads_leave reads = record { files = reads.reading.files; later = reads.reading.later; shut = reads_shut reads.gave reads.reading reads.after }
 
 sheet_leaves : (name : List ℕ) (before now : ShelfAt) (result : Result SheetParts Refusal) → ReadsSheet name before now result → Leaves before now result
-sheet_leaves name before now result sheet = reads_leave source.Sheet name (λ bytes. Gives (sheet_by bytes)) before now result sheet_by (λ bytes gives. gives) sheet
+sheet_leaves name before now result sheet =
+    reads_leave source.Sheet name (λ bytes. Gives (sheet_by bytes)) before now result sheet_by (λ bytes gives. gives) sheet
 
-module _ (name : List ℕ) (Ends : SheetParts → Ending → Type 0) (answer : SheetParts → Ending) (before now : ShelfAt) (ending : Ending) (gives : (parts : SheetParts) → Ends parts ending → Gives (answer parts) ending) where
+module _ (name : List ℕ) (Ends : SheetParts → Ending → Type 0) (answer : SheetParts → Ending) (before now : ShelfAt)
+    (ending : Ending) (gives : (parts : SheetParts) → Ends parts ending → Gives (answer parts) ending) where
   one_shut : (gave : Result SheetParts Refusal) → Shut now.is_open gave → After Ends gave ending → Shut now.is_open ending
   one_shut (Ok parts) shut after = gives_shut (answer parts) now.is_open ending (gives parts after)
   one_shut (Err refusal) shut after = rw after (shut_same SheetParts Printed now.is_open refusal shut)
@@ -181,7 +192,8 @@ module _ (name : List ℕ) (Ends : SheetParts → Ending → Type 0) (answer : S
       let left : Leaves before now one.gave = sheet_leaves name before now one.gave one.sheet in
       record { files = left.files; later = left.later; shut = one_shut one.gave left.shut one.after }
 
-module _ (sheet_name : List ℕ) (which : Source) (name : List ℕ) (Ends : SheetParts → List ℕ → Ending → Type 0) (answer : SheetParts → List ℕ → Ending) (before middle now : ShelfAt) (ending : Ending)
+module _ (sheet_name : List ℕ) (which : Source) (name : List ℕ) (Ends : SheetParts → List ℕ → Ending →
+    Type 0) (answer : SheetParts → List ℕ → Ending) (before middle now : ShelfAt) (ending : Ending)
     (gives : (parts : SheetParts) (bytes : List ℕ) → Ends parts bytes ending → Gives (answer parts bytes) ending) where
   two_by : (gave : Result SheetParts Refusal) → Leaves before middle gave → ReadsNext which name Ends gave middle now ending → Leaves before now ending
   two_by (Ok parts) first next =
@@ -191,8 +203,10 @@ module _ (sheet_name : List ℕ) (which : Source) (name : List ℕ) (Ends : Shee
       let here : now ≡ middle = next.0 in
       rw (here, next.1) (record { files = first.files; later = first.later; shut = shut_same SheetParts Printed middle.is_open refusal first.shut })
 
-two_leaves : (sheet_name : List ℕ) (which : Source) (name : List ℕ) (Ends : SheetParts → List ℕ → Ending → Type 0) (answer : SheetParts → List ℕ → Ending) (before now : ShelfAt) (ending : Ending) →
-    ((parts : SheetParts) (bytes : List ℕ) → Ends parts bytes ending → Gives (answer parts bytes) ending) → TwoFiles sheet_name which name Ends before now ending → Leaves before now ending
+two_leaves : (sheet_name : List ℕ) (which : Source) (name : List ℕ) (Ends : SheetParts → List ℕ → Ending →
+    Type 0) (answer : SheetParts → List ℕ → Ending) (before now : ShelfAt) (ending : Ending) →
+    ((parts : SheetParts) (bytes : List ℕ) → Ends parts bytes ending → Gives (answer parts bytes) ending) →
+    TwoFiles sheet_name which name Ends before now ending → Leaves before now ending
 two_leaves sheet_name which name Ends answer before now ending gives two =
     two_by sheet_name which name Ends answer before two.middle now ending gives two.gave (sheet_leaves sheet_name before two.middle two.gave two.sheet) two.next
 
@@ -214,7 +228,13 @@ does_leave (Some asked) before now ending does = plan_leaves (plan_of asked) bef
 shut_read : (is_open : Bool) (ending : Ending) (which : Source) → Shut is_open ending → ending ≡ Err (Read which) → is_open ≡ false
 shut_read is_open ending which shut e = rw e at shut
 
-pub leaves_told : (before now : ShelfAt) (ending : Ending) (status : ℕ) → Leaves before now ending → (status ≡ 3 → (which : Source) × (ending ≡ Err (Read which))) →
+pub leaves_told : (before now : ShelfAt) (ending : Ending) (status : ℕ) → Leaves before now ending →
+    (status ≡ 3 → (which : Source) × (ending ≡ Err (Read which))) →
     LeavesShelf before now status
 leaves_told before now ending status left read =
-    record { files = left.files; later = left.later; closed = λ e. let at : (which : Source) × (ending ≡ Err (Read which)) = read e in shut_read now.is_open ending at.0 left.shut at.1 }
+    record {
+      files = left.files;
+      later = left.later;
+      closed = λ e. let at : (which : Source) × (ending ≡ Err (Read which)) =
+          read e in shut_read now.is_open ending at.0 left.shut at.1;
+    }

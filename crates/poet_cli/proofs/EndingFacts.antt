@@ -1,5 +1,6 @@
 -- What the top call says, from how its command ended and how that was told.
-use Rattle.std.proofs.Common.{◌≡◌, ◌≢◌, ℕ, ◌≤◌, ◌⊎◌, ◌↔◌, inl, inr, Bool, false, List, Option, Some, None, Result, Ok, Err, IsOk, IfOk, IfErr, refl, sym, ◌∙◌, ap, arith}
+use Rattle.std.proofs.Common.{◌≡◌, ◌≢◌, ℕ, ◌≤◌, ◌⊎◌, ◌↔◌, inl, inr, Bool, false, List, Option, Some, None, Result, Ok, Err, IsOk, IfOk, IfErr, refl}
+use Rattle.std.proofs.Common.{sym, ◌∙◌, ap, arith}
 use Rattle.poet_io.specs.Faults.{Rose}
 use Rattle.poet_io.specs.Shelves.{Files, IfTold, IsTold}
 use Rattle.poet_io.specs.Sinks.{Appended}
@@ -70,10 +71,12 @@ module _ (answer : Files → Ending) (may : Refusal → Type 0) (before now : Sh
       }
 
   -- a refusal that the files tell
-  plain_answers : (r : Refusal) → may r → IfTold before.files (λ x. answer x ≡ Err r) → 2 ≤ refusal_status r → refusal_status r ≤ 7 → refusal_status r ≢ 3 → refusal_status r ≢ 4 →
+  plain_answers : (r : Refusal) → may r → IfTold before.files (λ x. answer x ≡ Err r) → 2 ≤ refusal_status r →
+      refusal_status r ≤ 7 → refusal_status r ≢ 3 → refusal_status r ≢ 4 →
       (refusal_status r ≡ 2 → r ≡ Usage) → ToldLine r s t status → Says
   plain_answers r m got low high no_read no_write is_usage wrote =
-      let same : IfTold before.files Same = if_told_map before.files (λ x. answer x ≡ Err r) Same (λ x e. rw e (wrote.status_is, stayed_appended s.out t.out wrote.silent)) got in
+      let same : IfTold before.files Same = if_told_map before.files (λ x. answer x ≡ Err r) Same
+      (λ x e. rw e (wrote.status_is, stayed_appended s.out t.out wrote.silent)) got in
       record {
         answer_is = λ a b c. same;
         read_cause = λ h. absurd (no_read (sym wrote.status_is ∙ h));
@@ -95,7 +98,8 @@ module _ (answer : Files → Ending) (may : Refusal → Type 0) (before now : Sh
         complete = λ a b. if_told_map before.files Same _ (λ x e. inr e) same;
       }
 
-  read_answers : (which : Source) → may (Read which) → Rose before.faults now.faults ⊎ IsTold before.files (λ x. answer x ≡ Err (Read which)) → ToldLine (Read which) s t status → Says
+  read_answers : (which : Source) → may (Read which) →
+      Rose before.faults now.faults ⊎ IsTold before.files (λ x. answer x ≡ Err (Read which)) → ToldLine (Read which) s t status → Says
   read_answers which m d wrote =
       record {
         answer_is = λ a b c. absurd (a wrote.status_is);
@@ -122,7 +126,8 @@ module _ (answer : Files → Ending) (may : Refusal → Type 0) (before now : Sh
         };
         complete = λ a b. elim d [
           | inl rose ↦ absurd (a rose)
-          | inr e ↦ if_told_from before.files (λ x. answer x ≡ Err (Read which)) _ (λ x e. rw e (inr (wrote.status_is, stayed_appended s.out t.out wrote.silent))) e
+          | inr e ↦ if_told_from before.files (λ x. answer x ≡ Err (Read which)) _
+              (λ x e. rw e (inr (wrote.status_is, stayed_appended s.out t.out wrote.silent))) e
         ];
       }
 
@@ -150,14 +155,21 @@ module _ (answer : Files → Ending) (may : Refusal → Type 0) (before now : Sh
       }
 
   refused_answers : (r : Refusal) → may r → Denied answer before.files before.faults now.faults r → ToldLine r s t status → Says
-  refused_answers Usage m d wrote = plain_answers Usage m d (omega arith) (omega arith) (λ e. absurd (omega (arith, e))) (λ e. absurd (omega (arith, e))) (λ e. refl) wrote
+  refused_answers Usage m d wrote = plain_answers Usage m d (omega arith) (omega arith) (λ e. absurd (omega (arith, e)))
+      (λ e. absurd (omega (arith, e))) (λ e. refl) wrote
   refused_answers (Read which) m d wrote = read_answers which m d wrote
-  refused_answers (Sheet e) m d wrote = plain_answers (Sheet e) m d (omega arith) (omega arith) (λ e. absurd (omega (arith, e))) (λ e. absurd (omega (arith, e))) (λ e. absurd (omega (arith, e))) wrote
-  refused_answers (Text which line) m d wrote = plain_answers (Text which line) m d (omega arith) (omega arith) (λ e. absurd (omega (arith, e))) (λ e. absurd (omega (arith, e))) (λ e. absurd (omega (arith, e))) wrote
-  refused_answers (Limit which) m d wrote = plain_answers (Limit which) m d (omega arith) (omega arith) (λ e. absurd (omega (arith, e))) (λ e. absurd (omega (arith, e))) (λ e. absurd (omega (arith, e))) wrote
-  refused_answers (Points name) m d wrote = plain_answers (Points name) m d (omega arith) (omega arith) (λ e. absurd (omega (arith, e))) (λ e. absurd (omega (arith, e))) (λ e. absurd (omega (arith, e))) wrote
-  refused_answers Jobs m d wrote = plain_answers Jobs m d (omega arith) (omega arith) (λ e. absurd (omega (arith, e))) (λ e. absurd (omega (arith, e))) (λ e. absurd (omega (arith, e))) wrote
-  refused_answers Segments m d wrote = plain_answers Segments m d (omega arith) (omega arith) (λ e. absurd (omega (arith, e))) (λ e. absurd (omega (arith, e))) (λ e. absurd (omega (arith, e))) wrote
+  refused_answers (Sheet e) m d wrote = plain_answers (Sheet e) m d (omega arith) (omega arith) (λ e. absurd (omega (arith, e)))
+      (λ e. absurd (omega (arith, e))) (λ e. absurd (omega (arith, e))) wrote
+  refused_answers (Text which line) m d wrote = plain_answers (Text which line) m d (omega arith) (omega arith)
+      (λ e. absurd (omega (arith, e))) (λ e. absurd (omega (arith, e))) (λ e. absurd (omega (arith, e))) wrote
+  refused_answers (Limit which) m d wrote = plain_answers (Limit which) m d (omega arith) (omega arith)
+      (λ e. absurd (omega (arith, e))) (λ e. absurd (omega (arith, e))) (λ e. absurd (omega (arith, e))) wrote
+  refused_answers (Points name) m d wrote = plain_answers (Points name) m d (omega arith) (omega arith)
+      (λ e. absurd (omega (arith, e))) (λ e. absurd (omega (arith, e))) (λ e. absurd (omega (arith, e))) wrote
+  refused_answers Jobs m d wrote = plain_answers Jobs m d (omega arith) (omega arith) (λ e. absurd (omega (arith, e)))
+      (λ e. absurd (omega (arith, e))) (λ e. absurd (omega (arith, e))) wrote
+  refused_answers Segments m d wrote = plain_answers Segments m d (omega arith) (omega arith) (λ e. absurd (omega (arith, e)))
+      (λ e. absurd (omega (arith, e))) (λ e. absurd (omega (arith, e))) wrote
   refused_answers Memory m d wrote = memory_answers m wrote
 
   -- the clause `answers`
@@ -205,7 +217,8 @@ refusal_low Segments = omega arith
 refusal_low Memory = omega arith
 
 -- the clause `headline`
-pub holds_told : (P Q : List ℕ → Type 0) (ending : Ending) (s t : Outlets) (status : ℕ) → Told ending s t status → IfOk ending (IsSound P Q) → status ≡ 0 → WasPrinted s.out t.out P
+pub holds_told : (P Q : List ℕ → Type 0) (ending : Ending) (s t : Outlets) (status : ℕ) → Told ending s t status →
+    IfOk ending (IsSound P Q) → status ≡ 0 → WasPrinted s.out t.out P
 holds_told P Q (Ok (Done text)) s t status (inl wrote) sound e = record { text = text; written = wrote.text_is; holds = sound }
 holds_told P Q (Ok (Done text)) s t status (inr wrote) sound e = absurd (omega (arith, wrote.status_is, e))
 holds_told P Q (Ok (JudgedNo text)) s t status (inl wrote) sound e = absurd (omega (arith, wrote.status_is, e))
@@ -213,7 +226,8 @@ holds_told P Q (Ok (JudgedNo text)) s t status (inr wrote) sound e = absurd (ome
 holds_told P Q (Err r) s t status wrote sound e = absurd (omega (arith, refusal_low r, wrote.status_is, e))
 
 -- the clause `objection`
-pub fails_told : (P Q : List ℕ → Type 0) (ending : Ending) (s t : Outlets) (status : ℕ) → Told ending s t status → IfOk ending (IsSound P Q) → status ≡ 1 → WasPrinted s.out t.out Q
+pub fails_told : (P Q : List ℕ → Type 0) (ending : Ending) (s t : Outlets) (status : ℕ) → Told ending s t status →
+    IfOk ending (IsSound P Q) → status ≡ 1 → WasPrinted s.out t.out Q
 fails_told P Q (Ok (JudgedNo text)) s t status (inl wrote) sound e = record { text = text; written = wrote.text_is; holds = sound }
 fails_told P Q (Ok (JudgedNo text)) s t status (inr wrote) sound e = absurd (omega (arith, wrote.status_is, e))
 fails_told P Q (Ok (Done text)) s t status (inl wrote) sound e = absurd (omega (arith, wrote.status_is, e))

@@ -1,5 +1,6 @@
 -- What a command ends with, where the shelf tells its files.
-use Rattle.std.proofs.Common.{◌≡◌, ◌<◌, ◌≤◌, ◌⊎◌, inl, inr, ℕ, List, length, Option, Some, None, Result, Ok, Err, nat_le, if◌then◌else◌, true, false, refl, sym, ap, subst, ◌∙◌, arith}
+use Rattle.std.proofs.Common.{◌≡◌, ◌<◌, ◌≤◌, ◌⊎◌, inl, inr, ℕ, List, length, Option, Some, None, Result, Ok, Err, nat_le, if◌then◌else◌, true, false}
+use Rattle.std.proofs.Common.{refl, sym, ap, subst, ◌∙◌, arith}
 use Rattle.std.proofs.lemmas.Bool.Decides.{nat_tests}
 use Rattle.poet_io.specs.Faults.{Rose}
 use Rattle.poet_io.specs.Shelves.{Files, IfTold, IsTold}
@@ -65,10 +66,12 @@ module _ {A B : Type 0} (first : Files → Result A Refusal) (rest : A → Files
   found_not f g Memory d = tt
 
   -- the first step gave this
-  found_next : (f h g : ℕ) → f ≤ h → (a : A) → IfTold told (λ x. first x ≡ Ok a) → (result : Result B Refusal) → Found (rest a) told h g result → Found Whole told f g result
+  found_next : (f h g : ℕ) → f ≤ h → (a : A) → IfTold told (λ x. first x ≡ Ok a) → (result : Result B Refusal) →
+      Found (rest a) told h g result → Found Whole told f g result
   found_next f h g le a is (Ok b) d = if_told_map_two told _ _ _ (λ x s t. rw s t) is d
   found_next f h g le a is (Err Usage) d = if_told_map_two told _ _ _ (λ x s t. rw s t) is d
-  found_next f h g le a is (Err (Read which)) d = elim d [ inl rose ↦ inl (rose_from f h g le rose) | inr t ↦ inr (is_told_map_two told _ _ _ (λ x s u. rw s u) is t) ]
+  found_next f h g le a is (Err (Read which)) d =
+      elim d [ inl rose ↦ inl (rose_from f h g le rose) | inr t ↦ inr (is_told_map_two told _ _ _ (λ x s u. rw s u) is t) ]
   found_next f h g le a is (Err (Sheet refusal)) d = if_told_map_two told _ _ _ (λ x s t. rw s t) is d
   found_next f h g le a is (Err (Text which line)) d = if_told_map_two told _ _ _ (λ x s t. rw s t) is d
   found_next f h g le a is (Err (Limit which)) d = if_told_map_two told _ _ _ (λ x s t. rw s t) is d
@@ -83,7 +86,8 @@ within_few which bytes few = let e : nat_le (length bytes) (limit_of which) ≡ 
 within_many : (which : Source) (bytes : List ℕ) → limit_of which < length bytes → within which (Some bytes) ≡ Err (Limit which)
 within_many which bytes many = let e : nat_le (length bytes) (limit_of which) ≡ false = grind (arith, nat_tests) in rw e refl
 
-reading_found : (which : Source) (name : List ℕ) (before now : ShelfAt) (gave : Result (List ℕ) Refusal) → IsFileReading which name before now gave → Found (file_in which name) before.files before.faults now.faults gave
+reading_found : (which : Source) (name : List ℕ) (before now : ShelfAt) (gave : Result (List ℕ) Refusal) →
+    IsFileReading which name before now gave → Found (file_in which name) before.files before.faults now.faults gave
 reading_found which name before now (Ok bytes) r = if_told_map before.files _ _ (λ x e. rw e (within_few which bytes r.calls.few)) r.calls.is_told
 reading_found which name before now (Err (Read at)) r =
     let is : at ≡ which = r.calls.0 in
@@ -99,49 +103,66 @@ reading_found which name before now (Err (Points task)) r = absurd r.calls
 reading_found which name before now (Err Jobs) r = absurd r.calls
 reading_found which name before now (Err Segments) r = absurd r.calls
 
-module _ {A : Type 0} (which : Source) (name : List ℕ) (Ends : List ℕ → Result A Refusal → Type 0) (answer : List ℕ → Result A Refusal) (before now : ShelfAt) (result : Result A Refusal)
+module _ {A : Type 0} (which : Source) (name : List ℕ) (Ends : List ℕ → Result A Refusal → Type 0) (answer : List ℕ →
+    Result A Refusal) (before now : ShelfAt) (result : Result A Refusal)
     (gives : (bytes : List ℕ) → Ends bytes result → Gives (answer bytes) result) where
-  reads_by : (gave : Result (List ℕ) Refusal) → IsFileReading which name before now gave → After Ends gave result → Found (λ x. next (file_in which name x) answer) before.files before.faults now.faults result
+  reads_by : (gave : Result (List ℕ) Refusal) → IsFileReading which name before now gave → After Ends gave result →
+      Found (λ x. next (file_in which name x) answer) before.files before.faults now.faults result
   reads_by (Ok bytes) reading after =
       given (λ x. next (file_in which name x) answer) (answer bytes) before.files before.faults now.faults result
-      (if_told_map before.files (λ x. file_in which name x ≡ Ok bytes) _ (λ x e. rw e refl) (reading_found which name before now (Ok bytes) reading)) (gives bytes after)
+      (if_told_map before.files (λ x. file_in which name x ≡ Ok bytes) _ (λ x e. rw e refl)
+      (reading_found which name before now (Ok bytes) reading)) (gives bytes after)
   reads_by (Err refusal) reading after =
-      rw after (found_not (file_in which name) (λ bytes x. answer bytes) before.files before.faults now.faults refusal (reading_found which name before now (Err refusal) reading))
+      rw after (found_not (file_in which name) (λ bytes x. answer bytes) before.files before.faults now.faults refusal
+      (reading_found which name before now (Err refusal) reading))
 
   reads_found : Reads which name Ends before now result → Found (λ x. next (file_in which name x) answer) before.files before.faults now.faults result
   reads_found reads = reads_by reads.gave reads.reading reads.after
 
-pub sheet_found : (name : List ℕ) (before now : ShelfAt) (result : Result SheetParts Refusal) → ReadsSheet name before now result → Found (sheet_in name) before.files before.faults now.faults result
-sheet_found name before now result reads = reads_found source.Sheet name (λ bytes. Gives (sheet_by bytes)) sheet_by before now result (λ bytes given. given) reads
+pub sheet_found : (name : List ℕ) (before now : ShelfAt) (result : Result SheetParts Refusal) →
+    ReadsSheet name before now result → Found (sheet_in name) before.files before.faults now.faults result
+sheet_found name before now result reads =
+    reads_found source.Sheet name (λ bytes. Gives (sheet_by bytes)) sheet_by before now result (λ bytes given. given) reads
 
-module _ (name : List ℕ) (Ends : SheetParts → Ending → Type 0) (answer : SheetParts → Ending) (before now : ShelfAt) (ending : Ending) (gives : (parts : SheetParts) → Ends parts ending → Gives (answer parts) ending) where
-  one_by : (gave : Result SheetParts Refusal) → ReadsSheet name before now gave → After Ends gave ending → Found (over_sheet name answer) before.files before.faults now.faults ending
+module _ (name : List ℕ) (Ends : SheetParts → Ending → Type 0) (answer : SheetParts → Ending) (before now : ShelfAt)
+    (ending : Ending) (gives : (parts : SheetParts) → Ends parts ending → Gives (answer parts) ending) where
+  one_by : (gave : Result SheetParts Refusal) → ReadsSheet name before now gave → After Ends gave ending →
+      Found (over_sheet name answer) before.files before.faults now.faults ending
   one_by (Ok parts) sheet after =
       given (over_sheet name answer) (answer parts) before.files before.faults now.faults ending
       (if_told_map before.files (λ x. sheet_in name x ≡ Ok parts) _ (λ x e. rw e refl) (sheet_found name before now (Ok parts) sheet)) (gives parts after)
   one_by (Err refusal) sheet after =
-      rw after (found_not (sheet_in name) (λ parts x. answer parts) before.files before.faults now.faults refusal (sheet_found name before now (Err refusal) sheet))
+      rw after (found_not (sheet_in name) (λ parts x. answer parts) before.files before.faults now.faults refusal
+      (sheet_found name before now (Err refusal) sheet))
 
   one_found : OneFile name Ends before now ending → Found (over_sheet name answer) before.files before.faults now.faults ending
   one_found one = one_by one.gave one.sheet one.after
 
-module _ (sheet_name : List ℕ) (which : Source) (name : List ℕ) (Ends : SheetParts → List ℕ → Ending → Type 0) (answer : SheetParts → List ℕ → Ending) (before middle now : ShelfAt) (ending : Ending)
+module _ (sheet_name : List ℕ) (which : Source) (name : List ℕ) (Ends : SheetParts → List ℕ → Ending →
+    Type 0) (answer : SheetParts → List ℕ → Ending) (before middle now : ShelfAt) (ending : Ending)
     (gives : (parts : SheetParts) (bytes : List ℕ) → Ends parts bytes ending → Gives (answer parts bytes) ending) where
   abbrev Rest : SheetParts → Files → Ending
   Rest parts x = next (file_in which name x) (answer parts)
 
-  two_by : (gave : Result SheetParts Refusal) → ReadsSheet sheet_name before middle gave → ReadsNext which name Ends gave middle now ending → Found (over_both sheet_name which name answer) before.files before.faults now.faults ending
+  two_by : (gave : Result SheetParts Refusal) → ReadsSheet sheet_name before middle gave →
+      ReadsNext which name Ends gave middle now ending → Found (over_both sheet_name which name answer) before.files before.faults now.faults ending
   two_by (Ok parts) sheet after =
-      let found : Found (Rest parts) middle.files middle.faults now.faults ending = reads_found which name (Ends parts) (answer parts) middle now ending (gives parts) after in
-      found_next (sheet_in sheet_name) Rest before.files before.faults middle.faults now.faults sheet.reading.later parts (sheet_found sheet_name before middle (Ok parts) sheet) ending
+      let found : Found (Rest parts) middle.files middle.faults now.faults ending =
+      reads_found which name (Ends parts) (answer parts) middle now ending (gives parts) after in
+      found_next (sheet_in sheet_name) Rest before.files before.faults middle.faults now.faults sheet.reading.later parts
+      (sheet_found sheet_name before middle (Ok parts) sheet) ending
       (subst (λ told. Found (Rest parts) told middle.faults now.faults ending) sheet.reading.files found)
   two_by (Err refusal) sheet after =
-      rw (after.1, after.0) (found_not (sheet_in sheet_name) Rest before.files before.faults middle.faults refusal (sheet_found sheet_name before middle (Err refusal) sheet))
+      rw (after.1, after.0) (found_not (sheet_in sheet_name) Rest before.files before.faults middle.faults refusal
+      (sheet_found sheet_name before middle (Err refusal) sheet))
 
-pub two_found : (sheet_name : List ℕ) (which : Source) (name : List ℕ) (Ends : SheetParts → List ℕ → Ending → Type 0) (answer : SheetParts → List ℕ → Ending) (before now : ShelfAt) (ending : Ending) →
-    ((parts : SheetParts) (bytes : List ℕ) → Ends parts bytes ending → Gives (answer parts bytes) ending) → TwoFiles sheet_name which name Ends before now ending →
+pub two_found : (sheet_name : List ℕ) (which : Source) (name : List ℕ) (Ends : SheetParts → List ℕ → Ending →
+    Type 0) (answer : SheetParts → List ℕ → Ending) (before now : ShelfAt) (ending : Ending) →
+    ((parts : SheetParts) (bytes : List ℕ) → Ends parts bytes ending → Gives (answer parts bytes) ending) →
+    TwoFiles sheet_name which name Ends before now ending →
     Found (over_both sheet_name which name answer) before.files before.faults now.faults ending
-two_found sheet_name which name Ends answer before now ending gives two = two_by sheet_name which name Ends answer before two.middle now ending gives two.gave two.sheet two.next
+two_found sheet_name which name Ends answer before now ending gives two =
+    two_by sheet_name which name Ends answer before two.middle now ending gives two.gave two.sheet two.next
 
 none_found : (answer : Ending) (told : Option Files) (f g : ℕ) (ending : Ending) → Gives answer ending → Found (λ x. answer) told f g ending
 none_found answer told f g ending gives = given (λ x. answer) answer told f g ending (if_told_any told _ (λ x. refl)) gives

@@ -27,13 +27,15 @@ accepted_by : (sheet : SheetParts) (cert : Cert) (failed : Option Failed) (bound
 accepted_by sheet cert None bounds e = let same : bounds_of cert ≡ bounds = cc in rw same refl
 accepted_by sheet cert (Some failed) bounds e = absurd (cc)
 
-accepted_read : (sheet : SheetParts) (failed : Cert → Option Failed) (read : Result Cert TextRefusal) (bounds : List ℕ) → verdict_by failed read ≡ verdict.Accepted bounds →
+accepted_read : (sheet : SheetParts) (failed : Cert → Option Failed) (read : Result Cert TextRefusal) (bounds : List ℕ) →
+    verdict_by failed read ≡ verdict.Accepted bounds →
     next (text_read source.Certificate read) (λ cert. Ok (judged_by accepted_for sheet cert (failed cert))) ≡ Ok (printed.Done (accepted_text sheet bounds))
 accepted_read sheet failed (Ok cert) bounds e = ap (λ x. Ok x) (accepted_by sheet cert (failed cert) bounds e)
 accepted_read sheet failed (Err (texts.Line line)) bounds e = absurd (cc)
 accepted_read sheet failed (Err texts.Memory) bounds e = absurd (cc)
 
-accepted_judged : (sheet : SheetParts) (bytes bounds : List ℕ) → cert_verdict_of (meaning_of sheet.policy) per_task_meaning (sbf_of sheet.supply) sheet false bytes ≡ verdict.Accepted bounds →
+accepted_judged : (sheet : SheetParts) (bytes bounds : List ℕ) →
+    cert_verdict_of (meaning_of sheet.policy) per_task_meaning (sbf_of sheet.supply) sheet false bytes ≡ verdict.Accepted bounds →
     judge_by accepted_for false sheet bytes ≡ Ok (printed.Done (accepted_text sheet bounds))
 unfolding cert_of_text cert_verdict_of
 accepted_judged sheet bytes bounds e = accepted_read sheet (λ cert. failed_for sheet false cert) (cert_of_text bytes) bounds e

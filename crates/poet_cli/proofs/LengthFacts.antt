@@ -12,7 +12,8 @@ use Rattle.certificate.specs.declared.cert.Cert.{Cert}
 use Rattle.certificate.specs.declared.cert.Version.{Version}
 use Rattle.certificate.specs.declared.cert.Version.TheVariants.{One}
 use Rattle.certificate.specs.declared.cert.Terms.{Terms}
-use Rattle.certificate.specs.Text.{point_line, lines_of, point_text, points_text, entry_line, head_of, entries_text, text_of, IsPoint, IsEntry, HasTermsOf, IsWithinGrammar}
+use Rattle.certificate.specs.Text.{point_line, lines_of, point_text, points_text, entry_line, head_of, entries_text, text_of, IsPoint, IsEntry}
+use Rattle.certificate.specs.Text.{HasTermsOf, IsWithinGrammar}
 
 decimal_short : (n : ℕ) → n ≤ 1000000000 → length (decimal n) ≤ 10
 decimal_short n h = length-decimal-le 10 n (omega arith) (omega arith) (omega arith)
@@ -38,19 +39,35 @@ entry_points e plain each =
 
 line_short : (i : ℕ) (e : Entry) → i ≤ 1000000000 → IsEntry e → length (entry_line i e) ≤ 49
 line_short i e h p =
-    simp length-append (omega (arith, decimal_short i h, decimal_short e.window p.window, decimal_short e.bound p.bound, decimal_short (length e.points) (omega (arith, p.few))))
+    simp length-append (omega (
+      arith,
+      decimal_short i h,
+      decimal_short e.window p.window,
+      decimal_short e.bound p.bound,
+      decimal_short (length e.points) (omega (arith, p.few)),
+    ))
 
-entries_short : (i : ℕ) (es : List Entry) → i + length es ≤ 1000000000 → All IsEntry es → All (HasTermsOf One) es → length (entries_text i es) ≤ 49 * length es + 24 * sum_by (λ e. length e.points) es
+entries_short : (i : ℕ) (es : List Entry) → i + length es ≤ 1000000000 → All IsEntry es → All (HasTermsOf One) es →
+    length (entries_text i es) ≤ 49 * length es + 24 * sum_by (λ e. length e.points) es
 entries_short i [] h each plain = omega arith
 entries_short i (e ∷ es) h each plain =
     let one : IsEntry e = All-head IsEntry e es each in
     let here = line_short i e (omega arith) one in
     let points = entry_points e (All-head (HasTermsOf One) e es plain) one.points in
     let rest = entries_short (suc i) es (omega arith) (All-tail IsEntry e es each) (All-tail (HasTermsOf One) e es plain) in
-    omega (arith, sum_by-cons (λ (x : Entry). length x.points) e es, length-append (entry_line i e) (points_text e ++ entries_text (suc i) es), length-append (points_text e) (entries_text (suc i) es), here, points, rest)
+    omega (
+      arith,
+      sum_by-cons (λ (x : Entry). length x.points) e es,
+      length-append (entry_line i e) (points_text e ++ entries_text (suc i) es),
+      length-append (points_text e) (entries_text (suc i) es),
+      here,
+      points,
+      rest,
+    )
 
 -- with up to 1,000,000 points the text of the first version is within the limit of its file
-pub text_short : (cert : Cert) → cert.version ≡ One → IsWithinGrammar cert → sum_by (λ e. length e.points) cert.entries ≤ 1000000 → length (text_of cert) ≤ 67108864
+pub text_short : (cert : Cert) → cert.version ≡ One → IsWithinGrammar cert →
+    sum_by (λ e. length e.points) cert.entries ≤ 1000000 → length (text_of cert) ≤ 67108864
 text_short cert first within few =
     let plain : All (HasTermsOf One) cert.entries = subst (λ (v : Version). All (HasTermsOf v) cert.entries) first within.terms in
     let entries = entries_short 0 cert.entries (omega (arith, within.few)) within.entries plain in

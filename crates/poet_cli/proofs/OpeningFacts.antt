@@ -1,5 +1,6 @@
 -- The names that a command opened, from its steps.
-use Rattle.std.proofs.Common.{◌≡◌, ◌⊎◌, inl, inr, ℕ, Bool, true, List, [], ◌∷◌, ◌++◌, map, Option, Some, None, Result, Ok, Err, refl, sym, ap, ◌∙◌, append_assoc, append-nil}
+use Rattle.std.proofs.Common.{◌≡◌, ◌⊎◌, inl, inr, ℕ, Bool, true, List, [], ◌∷◌, ◌++◌, map, Option, Some, None, Result, Ok, Err, refl, sym, ap, ◌∙◌}
+use Rattle.std.proofs.Common.{append_assoc, append-nil}
 use Rattle.poet_io.specs.declared.log.Event.{Event}
 use Rattle.poet_io.specs.declared.log.Event.TheVariants as event
 use Rattle.poet_io.specs.declared.shelf.ReadRefusal.{ReadRefusal}
@@ -42,21 +43,30 @@ opens_more before middle now name first next = opens_next before middle now (nam
 
 opens_so_far : (name bytes : List ℕ) (before now : List Event) → ReadSoFar name bytes before now → Opens before now (name ∷ [])
 opens_so_far name bytes before now so_far =
-    record { calls = event.Opened name true ∷ map read_event so_far.moves; since = so_far.calls; names_are = ap (λ names. name ∷ names) (opened_reads so_far.moves) }
+    record {
+      calls = event.Opened name true ∷ map read_event so_far.moves;
+      since = so_far.calls;
+      names_are =
+          ap (λ names. name ∷ names) (opened_reads so_far.moves);
+    }
 
 opens_to_end : (name bytes : List ℕ) (before now : List Event) → ReadToEnd name bytes before now → Opens before now (name ∷ [])
 opens_to_end name bytes before now read =
-    opens_more before read.middle now name (opens_so_far name bytes before read.middle read.so_far) (record { calls = event.Read read.room [] ∷ []; since = read.ended; names_are = refl })
+    opens_more before read.middle now name (opens_so_far name bytes before read.middle read.so_far)
+    (record { calls = event.Read read.room [] ∷ []; since = read.ended; names_are = refl })
 
-opens_until : (name : List ℕ) (limit : ℕ) (before now : List Event) (refusal : ReadRefusal) → ReadUntil name limit before now refusal → Opens before now (name ∷ [])
+opens_until : (name : List ℕ) (limit : ℕ) (before now : List Event) (refusal : ReadRefusal) →
+    ReadUntil name limit before now refusal → Opens before now (name ∷ [])
 opens_until name limit before now stop.Fault (inl failed) = record { calls = event.OpenFailed name ∷ []; since = failed; names_are = refl }
 opens_until name limit before now stop.Fault (inr some) =
-    opens_more before some.read.middle now name (opens_so_far name some.bytes before some.read.middle some.read.so_far) (record { calls = event.ReadFailed ∷ []; since = some.read.failed; names_are = refl })
+    opens_more before some.read.middle now name (opens_so_far name some.bytes before some.read.middle some.read.so_far)
+    (record { calls = event.ReadFailed ∷ []; since = some.read.failed; names_are = refl })
 opens_until name limit before now stop.Absent absent = record { calls = event.Opened name _ ∷ []; since = absent; names_are = refl }
 opens_until name limit before now stop.TooLong (bytes, so_far, many) = opens_so_far name bytes before now so_far
 opens_until name limit before now stop.Memory (bytes, so_far, few) = opens_so_far name bytes before now so_far
 
-reading_opens : (which : Source) (name : List ℕ) (before now : ShelfAt) (gave : Result (List ℕ) Refusal) → IsFileReading which name before now gave → Opens before.log now.log (name ∷ [])
+reading_opens : (which : Source) (name : List ℕ) (before now : ShelfAt) (gave : Result (List ℕ) Refusal) →
+    IsFileReading which name before now gave → Opens before.log now.log (name ∷ [])
 reading_opens which name before now (Ok bytes) reading = opens_to_end name bytes before.log now.log reading.calls.calls
 reading_opens which name before now (Err (Read at)) reading =
     elim reading.calls.1.calls [
@@ -73,24 +83,44 @@ reading_opens which name before now (Err Jobs) reading = absurd reading.calls
 reading_opens which name before now (Err Segments) reading = absurd reading.calls
 
 none_opens : (names : List (List ℕ)) (before now : ShelfAt) → now ≡ before → OpensFront names before.log now.log
-none_opens names before now none = record { front = []; rest = names; whole = refl; opens = record { calls = []; since = ap (λ x. x.log) none ∙ sym (append-nil before.log); names_are = refl } }
+none_opens names before now none =
+    record {
+      front = [];
+      rest = names;
+      whole = refl;
+      opens =
+          record { calls = []; since = ap (λ x. x.log) none ∙ sym (append-nil before.log); names_are = refl };
+    }
 
-one_opens : (name : List ℕ) (Ends : SheetParts → Ending → Type 0) (before now : ShelfAt) (ending : Ending) → OneFile name Ends before now ending → OpensFront (name ∷ []) before.log now.log
-one_opens name Ends before now ending one = record { front = name ∷ []; rest = []; whole = refl; opens = reading_opens source.Sheet name before now one.sheet.gave one.sheet.reading }
+one_opens : (name : List ℕ) (Ends : SheetParts → Ending → Type 0) (before now : ShelfAt) (ending : Ending) →
+    OneFile name Ends before now ending → OpensFront (name ∷ []) before.log now.log
+one_opens name Ends before now ending one =
+    record { front = name ∷ []; rest = []; whole = refl; opens = reading_opens source.Sheet name before now one.sheet.gave one.sheet.reading }
 
-module _ (sheet_name : List ℕ) (which : Source) (name : List ℕ) (Ends : SheetParts → List ℕ → Ending → Type 0) (before middle now : ShelfAt) (ending : Ending) where
-  two_opens_by : (gave : Result SheetParts Refusal) → ReadsSheet sheet_name before middle gave → ReadsNext which name Ends gave middle now ending → OpensFront (sheet_name ∷ name ∷ []) before.log now.log
+module _ (sheet_name : List ℕ) (which : Source) (name : List ℕ) (Ends : SheetParts → List ℕ → Ending →
+    Type 0) (before middle now : ShelfAt) (ending : Ending) where
+  two_opens_by : (gave : Result SheetParts Refusal) → ReadsSheet sheet_name before middle gave →
+      ReadsNext which name Ends gave middle now ending → OpensFront (sheet_name ∷ name ∷ []) before.log now.log
   two_opens_by (Ok parts) sheet next =
       record {
         front = sheet_name ∷ name ∷ [];
         rest = [];
         whole = refl;
-        opens = opens_next before.log middle.log now.log (sheet_name ∷ []) (name ∷ []) (reading_opens source.Sheet sheet_name before middle sheet.gave sheet.reading) (reading_opens which name middle now next.gave next.reading);
+        opens = opens_next before.log middle.log now.log (sheet_name ∷ []) (name ∷ [])
+            (reading_opens source.Sheet sheet_name before middle sheet.gave sheet.reading) (reading_opens which name middle now next.gave next.reading);
       }
   two_opens_by (Err refusal) sheet next =
-      rw next.0 (record { front = sheet_name ∷ []; rest = name ∷ []; whole = refl; opens = reading_opens source.Sheet sheet_name before middle sheet.gave sheet.reading })
+      rw next.0 (record {
+        front = sheet_name ∷ [];
+        rest = name ∷ [];
+        whole = refl;
+        opens =
+            reading_opens source.Sheet sheet_name before middle sheet.gave sheet.reading;
+      })
 
-two_opens : (sheet_name : List ℕ) (which : Source) (name : List ℕ) (Ends : SheetParts → List ℕ → Ending → Type 0) (before now : ShelfAt) (ending : Ending) → TwoFiles sheet_name which name Ends before now ending → OpensFront (sheet_name ∷ name ∷ []) before.log now.log
+two_opens : (sheet_name : List ℕ) (which : Source) (name : List ℕ) (Ends : SheetParts → List ℕ → Ending →
+    Type 0) (before now : ShelfAt) (ending : Ending) → TwoFiles sheet_name which name Ends before now ending →
+    OpensFront (sheet_name ∷ name ∷ []) before.log now.log
 two_opens sheet_name which name Ends before now ending two = two_opens_by sheet_name which name Ends before two.middle now ending two.gave two.sheet two.next
 
 -- a command opens a front of its files, in their order, and nothing else

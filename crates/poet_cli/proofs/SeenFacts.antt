@@ -17,5 +17,6 @@ printable_by sheet run None = seen_count run (length sheet.tasks)
 printable_by sheet run (Some fault) = tt
 
 -- a verdict tells of as many tasks as there are
-pub printable : (sheet : SheetParts) (run : Run) (fault : Option Fault) (v : AuditVerdict) → v ≡ verdict_by fault (seen_below run (length sheet.tasks)) → IsPrintableVerdict sheet v
+pub printable : (sheet : SheetParts) (run : Run) (fault : Option Fault) (v : AuditVerdict) →
+    v ≡ verdict_by fault (seen_below run (length sheet.tasks)) → IsPrintableVerdict sheet v
 printable sheet run fault v is = subst (IsPrintableVerdict sheet) (sym is) (printable_by sheet run fault)

@@ -19,7 +19,8 @@ run_given whole run None e = cc
 run_given whole run (Some limit) e = absurd (cc)
 
 -- a simulation that was not refused, and the text of its run
-pub simulation_judged : (sheet : SheetParts) (mode : Mode) (ticks : ℕ) (run : Run) (text : List ℕ) → text ≡ text_of run → simulation_of (world_for sheet mode) ticks ≡ Ok run → RunComplies sheet run → (mode ≡ Dense → IsDense sheet ticks run) →
+pub simulation_judged : (sheet : SheetParts) (mode : Mode) (ticks : ℕ) (run : Run) (text : List ℕ) → text ≡ text_of run →
+    simulation_of (world_for sheet mode) ticks ≡ Ok run → RunComplies sheet run → (mode ≡ Dense → IsDense sheet ticks run) →
     SimulateDoes mode ticks sheet (Ok (Done text))
 simulation_judged sheet mode ticks run text same exact complies full =
     let w : World = world_for sheet mode in

@@ -9,7 +9,8 @@ use Rattle.poet_cli.specs.Printing.{counted}
 -- exercise seed S tasks N points P greatest R jobs J done M worst W
 unfoldable pub exercise_line : ℕ → ℕ → Exercise → List ℕ
 exercise_line seed tasks e =
-    counted (codes "exercise seed ") seed ++ (counted (codes " tasks ") tasks ++ (counted (codes " points ") e.points ++ (counted (codes " greatest ") e.greatest
+    counted (codes "exercise seed ") seed ++
+    (counted (codes " tasks ") tasks ++ (counted (codes " points ") e.points ++ (counted (codes " greatest ") e.greatest
     ++ (counted (codes " jobs ") e.jobs ++ (counted (codes " done ") e.done ++ (counted (codes " worst ") e.worst ++ codes "\n"))))))
 
 -- the answer of `exercise`

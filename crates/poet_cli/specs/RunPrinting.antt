@@ -14,7 +14,8 @@ use Rattle.poet_cli.specs.Printing.{counted, named}
 -- task NAME jobs J done M worst W
 unfoldable pub seen_line : Task → Seen → List ℕ
 seen_line task seen =
-    codes "task " ++ (task.name ++ (counted (codes " jobs ") seen.jobs ++ (counted (codes " done ") seen.done ++ (counted (codes " worst ") seen.worst ++ codes "\n"))))
+    codes "task " ++ (task.name ++
+    (counted (codes " jobs ") seen.jobs ++ (counted (codes " done ") seen.done ++ (counted (codes " worst ") seen.worst ++ codes "\n"))))
 
 -- a line for each task
 abbrev pub seen_text : List Task → List Seen → List ℕ

@@ -8,5 +8,13 @@ unfolding line_at
 returns g c =
     let word = c.put_place-len.result.0.now in
     let digits = take c.put_place-len.result.1 c.put_place-len.new.digits in
-    let tail : place_text c.args.place ++ codes "\n" ≡ word ++ (digits ++ codes "\n") = ap (λ (xs : List ℕ). xs ++ codes "\n") c.put_place-len.ensures.text ∙ append_assoc word digits (codes "\n") in
-    wrote_as _ _ _ _ _ _ _ (cc (tail, c.as_bytes.ensures.value, c.as_bytes-2.ensures.value, c.as_bytes-3.ensures.value, c.as_bytes-4.ensures.value, c.as_bytes-5.ensures.value)) c.write_six.ensures
+    let tail : place_text c.args.place ++ codes "\n" ≡ word ++ (digits ++ codes "\n") =
+    ap (λ (xs : List ℕ). xs ++ codes "\n") c.put_place-len.ensures.text ∙ append_assoc word digits (codes "\n") in
+    wrote_as _ _ _ _ _ _ _ (cc (
+      tail,
+      c.as_bytes.ensures.value,
+      c.as_bytes-2.ensures.value,
+      c.as_bytes-3.ensures.value,
+      c.as_bytes-4.ensures.value,
+      c.as_bytes-5.ensures.value,
+    )) c.write_six.ensures

@@ -6,7 +6,8 @@ use Rattle.poet_cli.proofs.telling.write_refusal.Goals as goal
 pub returns-in-Text : goal.returns-in-Text
 unfolding line_of
 returns-in-Text g c =
-    wrote_as _ _ _ _ _ _ _ (ap (λ (word : List ℕ). word ++ (codes ": line " ++ (decimal c.in-Text.line ++ codes " is not of the format\n"))) c.word-in-Text.ensures ∙ search rules) c.write_number.ensures
+    wrote_as _ _ _ _ _ _ _ (ap (λ (word : List ℕ). word ++
+    (codes ": line " ++ (decimal c.in-Text.line ++ codes " is not of the format\n"))) c.word-in-Text.ensures ∙ search rules) c.write_number.ensures
 
 pub returns-in-Jobs : goal.returns-in-Jobs
 unfolding line_of

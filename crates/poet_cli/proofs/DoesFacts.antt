@@ -7,7 +7,7 @@ use Rattle.task_sheet.specs.declared.refusal.SheetRefusal.TheVariants as sheets
 use Rattle.poet_cli.specs.declared.refusal.Source.{Source}
 use Rattle.poet_cli.specs.declared.refusal.Source.TheVariants as source
 use Rattle.poet_cli.specs.declared.refusal.Refusal.{Refusal}
-use Rattle.poet_cli.specs.declared.refusal.Refusal.TheVariants.{Usage, Read, Sheet, Text, Limit, Points, Jobs, Segments, Memory}
+use Rattle.poet_cli.specs.declared.refusal.Refusal.TheVariants.{Usage, Read, Sheet, Text, Limit, Points, Jobs, Segments, LongUpgrade, Memory}
 use Rattle.poet_cli.specs.declared.printed.Printed.{Printed}
 use Rattle.poet_cli.specs.declared.printed.Printed.TheVariants.{Done, JudgedNo}
 use Rattle.poet_cli.specs.Endings.{Ending, IsSound}
@@ -124,6 +124,7 @@ Shut is_open (Err (Limit which)) = Unit {0}
 Shut is_open (Err (Points name)) = Unit {0}
 Shut is_open (Err Jobs) = Unit {0}
 Shut is_open (Err Segments) = Unit {0}
+Shut is_open (Err LongUpgrade) = Unit {0}
 Shut is_open (Err Memory) = Unit {0}
 
 gives_shut : {A : Type 0} (answer : Result A Refusal) (is_open : Bool) (result : Result A Refusal) → Gives answer result → Shut is_open result
@@ -136,6 +137,7 @@ gives_shut answer is_open (Err (Limit which)) gives = tt
 gives_shut answer is_open (Err (Points name)) gives = tt
 gives_shut answer is_open (Err Jobs) gives = tt
 gives_shut answer is_open (Err Segments) gives = tt
+gives_shut answer is_open (Err LongUpgrade) gives = tt
 gives_shut answer is_open (Err Memory) gives = tt
 
 -- the files stay, the count of faults has not fallen, and nothing is open where a file could not be read
@@ -155,6 +157,7 @@ reading_shut which name before now (Text at line) reading = tt
 reading_shut which name before now (Points task) reading = tt
 reading_shut which name before now Jobs reading = tt
 reading_shut which name before now Segments reading = tt
+reading_shut which name before now LongUpgrade reading = tt
 
 shut_same : (A B : Type 0) (is_open : Bool) (refusal : Refusal) → Shut {A = A} is_open (Err refusal) → Shut {A = B} is_open (Err refusal)
 shut_same A B is_open Usage shut = tt
@@ -165,6 +168,7 @@ shut_same A B is_open (Limit which) shut = tt
 shut_same A B is_open (Points name) shut = tt
 shut_same A B is_open Jobs shut = tt
 shut_same A B is_open Segments shut = tt
+shut_same A B is_open LongUpgrade shut = tt
 shut_same A B is_open Memory shut = tt
 
 module _ {A : Type 0} (which : Source) (name : List ℕ) (Ends : List ℕ → Result A Refusal → Type 0) (before now : ShelfAt)

@@ -8,7 +8,7 @@ use Rattle.task_sheet.specs.declared.refusal.SheetRefusal.TheVariants as sheets
 use Rattle.poet_cli.specs.declared.refusal.Source.{Source}
 use Rattle.poet_cli.specs.declared.refusal.Source.TheVariants as source
 use Rattle.poet_cli.specs.declared.refusal.Refusal.{Refusal}
-use Rattle.poet_cli.specs.declared.refusal.Refusal.TheVariants.{Usage, Read, Sheet, Text, Limit, Points, Jobs, Segments, Memory}
+use Rattle.poet_cli.specs.declared.refusal.Refusal.TheVariants.{Usage, Read, Sheet, Text, Limit, Points, Jobs, Segments, LongUpgrade, Memory}
 use Rattle.poet_cli.specs.Endings.{Ending}
 use Rattle.poet_cli.specs.Answers.{sheet_read, sheet_by, sheet_in}
 use Rattle.poet_cli.specs.Words.{Asked}
@@ -28,6 +28,7 @@ given_refusal answer (Limit which) gives = inr gives
 given_refusal answer (Points name) gives = inr gives
 given_refusal answer Jobs gives = inr gives
 given_refusal answer Segments gives = inr gives
+given_refusal answer LongUpgrade gives = inr gives
 given_refusal answer Memory gives = inl refl
 
 module _ (IsRead : Source → Type 0) (IsOwn : Refusal → Type 0) where
@@ -50,6 +51,7 @@ module _ (IsRead : Source → Type 0) (IsOwn : Refusal → Type 0) where
   may_reading which name before now (Points task) is reading = absurd reading.calls
   may_reading which name before now Jobs is reading = absurd reading.calls
   may_reading which name before now Segments is reading = absurd reading.calls
+  may_reading which name before now LongUpgrade is reading = absurd reading.calls
 
   module _ {A : Type 0} (which : Source) (name : List ℕ) (Ends : List ℕ → Result A Refusal → Type 0) (before now : ShelfAt)
       (refusal : Refusal) (is : IsRead which) (may : (bytes : List ℕ) → Ends bytes (Err refusal) → May refusal) where
@@ -95,6 +97,7 @@ module _ (IsRead : Source → Type 0) (IsOwn : Refusal → Type 0) where
   may_of IsText read (Points name) of = of
   may_of IsText read Jobs of = of
   may_of IsText read Segments of = of
+  may_of IsText read LongUpgrade of = of
   may_of IsText read Memory of = tt
 
   module _ (is : IsRead source.Sheet) (name : List ℕ) (Ends : SheetParts → Ending → Type 0) (before now : ShelfAt)

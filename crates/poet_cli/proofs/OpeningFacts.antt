@@ -10,7 +10,7 @@ use Rattle.task_sheet.specs.SheetParts.{SheetParts}
 use Rattle.poet_cli.specs.declared.refusal.Source.{Source}
 use Rattle.poet_cli.specs.declared.refusal.Source.TheVariants as source
 use Rattle.poet_cli.specs.declared.refusal.Refusal.{Refusal}
-use Rattle.poet_cli.specs.declared.refusal.Refusal.TheVariants.{Usage, Read, Sheet, Text, Limit, Points, Jobs, Segments, Memory}
+use Rattle.poet_cli.specs.declared.refusal.Refusal.TheVariants.{Usage, Read, Sheet, Text, Limit, Points, Jobs, Segments, LongUpgrade, Memory}
 use Rattle.poet_cli.specs.Endings.{Ending}
 use Rattle.poet_cli.specs.Words.{Asked}
 use Rattle.poet_cli.specs.Refusals.{limit_of}
@@ -81,6 +81,7 @@ reading_opens which name before now (Err (Text at line)) reading = absurd readin
 reading_opens which name before now (Err (Points task)) reading = absurd reading.calls
 reading_opens which name before now (Err Jobs) reading = absurd reading.calls
 reading_opens which name before now (Err Segments) reading = absurd reading.calls
+reading_opens which name before now (Err LongUpgrade) reading = absurd reading.calls
 
 none_opens : (names : List (List ℕ)) (before now : ShelfAt) → now ≡ before → OpensFront names before.log now.log
 none_opens names before now none =

@@ -22,7 +22,7 @@ use Rattle.solver.specs.Outcome.{best_of}
 use Rattle.poet_cli.specs.declared.refusal.Source.{Source}
 use Rattle.poet_cli.specs.declared.refusal.Source.TheVariants as source
 use Rattle.poet_cli.specs.declared.refusal.Refusal.{Refusal}
-use Rattle.poet_cli.specs.declared.refusal.Refusal.TheVariants.{Usage, Read, Sheet, Text, Limit, Points, Jobs, Segments, Memory}
+use Rattle.poet_cli.specs.declared.refusal.Refusal.TheVariants.{Usage, Read, Sheet, Text, Limit, Points, Jobs, Segments, LongUpgrade, Memory}
 use Rattle.poet_cli.specs.declared.printed.Printed.{Printed}
 use Rattle.poet_cli.specs.declared.printed.Printed.TheVariants as printed
 use Rattle.poet_cli.specs.Refusals.{limit_of}

@@ -8,7 +8,7 @@ use Rattle.task_sheet.specs.declared.refusal.SheetRefusal.TheVariants as sheet
 use Rattle.poet_cli.specs.declared.refusal.Source.{Source}
 use Rattle.poet_cli.specs.declared.refusal.Source.TheVariants as source
 use Rattle.poet_cli.specs.declared.refusal.Refusal.{Refusal}
-use Rattle.poet_cli.specs.declared.refusal.Refusal.TheVariants.{Usage, Read, Sheet, Text, Limit, Points, Jobs, Segments, Memory}
+use Rattle.poet_cli.specs.declared.refusal.Refusal.TheVariants.{Usage, Read, Sheet, Text, Limit, Points, Jobs, Segments, LongUpgrade, Memory}
 
 unfoldable pub field_word : Field → List ℕ
 field_word fields.Policy = codes "policy"
@@ -87,7 +87,8 @@ line_of Usage =
     ++ (codes " | audit SHEET RUN"
     ++ (codes " | report SHEET CERT text|json"
     ++ (codes " | exercise S N"
-    ++ codes "\n")))))
+    ++ (codes " | upgrade SHEET CERT"
+    ++ codes "\n"))))))
 line_of (Read which) = codes "read failed: " ++ (source_word which ++ codes "\n")
 line_of (Sheet refusal) = sheet_line refusal
 line_of (Text which line) =
@@ -96,6 +97,7 @@ line_of (Limit which) = limit_line which
 line_of (Points name) = points_line name
 line_of Jobs = codes "limit: jobs exceed 20000\n"
 line_of Segments = codes "limit: segments exceed 1000000\n"
+line_of LongUpgrade = codes "limit: upgraded certificate is longer than 67108864 bytes\n"
 line_of Memory = codes "memory\n"
 
 -- the line of status 4
@@ -111,4 +113,5 @@ refusal_status (Limit which) = 7
 refusal_status (Points name) = 7
 refusal_status Jobs = 7
 refusal_status Segments = 7
+refusal_status LongUpgrade = 7
 refusal_status Memory = 8

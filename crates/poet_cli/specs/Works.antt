@@ -10,8 +10,9 @@ use Rattle.poet_cli.specs.Endings.{Ending, IsSound}
 use Rattle.poet_cli.specs.Answers.{judge_by, analyse_by}
 use Rattle.poet_cli.specs.RunAnswers.{simulate_by, audit_by}
 use Rattle.poet_cli.specs.ExerciseAnswers.{exercise_answer}
+use Rattle.poet_cli.specs.UpgradeAnswers.{upgrade_of, upgrade_by, IsUpgrade, IsCountRefusal, UpgradeHolds, CountFails}
 use Rattle.poet_cli.specs.Steps.{Gives}
-use Rattle.poet_cli.specs.Refusing.{IsOf, NoText, IsTextOf, IsNoRefusal, IsPointsRefusal, IsRunRefusal}
+use Rattle.poet_cli.specs.Refusing.{IsOf, NoText, IsTextOf, IsNoRefusal, IsPointsRefusal, IsRunRefusal, IsUpgradeRefusal}
 use Rattle.poet_cli.specs.Analyses.{BestHolds, NoneHolds}
 use Rattle.poet_cli.specs.Headline.{BoundsHold, SimulationHolds, RunHolds, ExerciseIsPrinted}
 use Rattle.poet_cli.specs.Objections.{CertificateFails, RunFails, Never}
@@ -46,12 +47,22 @@ abbrev pub exercise_work : ℕ → ℕ → Work
 exercise_work seed tasks =
     work (exercise_answer seed tasks) (ExerciseIsPrinted seed tasks) Never
 
+abbrev pub upgrade_work : SheetParts → List ℕ → Work
+upgrade_work sheet bytes =
+    work (upgrade_by sheet bytes) (UpgradeHolds sheet bytes) (CountFails sheet bytes)
+
 -- the ending is the answer, or want of memory; what is printed is true; and a refusal is one of these
 pub record Judges (IsText : Source → Type 0) (IsOwn : Refusal → Type 0) (work : Work)
     (ending : Ending) : Type 0 where
   pub gives : Gives work.answer ending
   pub sound : IfOk ending (IsSound work.holds work.fails)
   pub refused : IfErr ending (IsOf IsText IsOwn)
+
+-- the work over a certificate that was read
+abbrev pub UpgradeDoesOf : SheetParts → Cert → Ending → Type 0
+UpgradeDoesOf sheet cert =
+    Judges (IsTextOf source.Certificate) IsUpgradeRefusal
+    (work (upgrade_of sheet cert) (IsUpgrade sheet cert) (IsCountRefusal sheet cert))
 
 -- what each command does with what it read
 abbrev pub JudgeDoes : (SheetParts → Cert → List ℕ) → Bool → SheetParts → List ℕ → Ending → Type 0
@@ -69,3 +80,7 @@ AuditDoes sheet bytes = Judges (IsTextOf source.Run) IsNoRefusal (audit_work she
 
 abbrev pub ExerciseDoes : ℕ → ℕ → Ending → Type 0
 ExerciseDoes seed tasks = Judges NoText IsNoRefusal (exercise_work seed tasks)
+
+abbrev pub UpgradeDoes : SheetParts → List ℕ → Ending → Type 0
+UpgradeDoes sheet bytes =
+    Judges (IsTextOf source.Certificate) IsUpgradeRefusal (upgrade_work sheet bytes)

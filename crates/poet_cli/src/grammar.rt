@@ -49,6 +49,11 @@ pub enum Command<'a> {
         seed: u64,
         tasks: u32,
     },
+    /// `upgrade SHEET CERT`.
+    Upgrade {
+        sheet: &'a str,
+        certificate: &'a str,
+    },
 }
 
 /// The form that a word names.
@@ -131,7 +136,7 @@ fn report_of<'a>(sheet: &'a str, certificate: &'a str, form: &str) -> Option<Com
     })
 }
 
-/// The commands of two words: `check`, `analyse`, `audit` and `exercise`.
+/// The commands of two words: `check`, `analyse`, `audit`, `exercise` and `upgrade`.
 #[tactic(auto, unfolding(crate::specs::Words::two_words))]
 fn command_of_two<'a>(command: &str, first: &'a str, second: &'a str) -> Option<Command<'a>>
     ensures defined { IsAsked (two_words command.now first.now second.now) result }
@@ -155,6 +160,12 @@ fn command_of_two<'a>(command: &str, first: &'a str, second: &'a str) -> Option<
     }
     if command == "exercise" {
         return exercise_of(first, second);
+    }
+    if command == "upgrade" {
+        return Some(Command::Upgrade {
+            sheet: first,
+            certificate: second,
+        });
     }
     None
 }

@@ -16,6 +16,7 @@ mod run_printing;
 mod simulating;
 mod telling;
 mod top;
+mod upgrading;
 mod viewing;
 
 pub use top::poet_run;

@@ -81,6 +81,7 @@ fn cond_text(cond: Cond) -> &'static str
         Cond::K7 => "refused K7",
         Cond::K8 => "refused K8",
         Cond::K9 => "refused K9",
+        Cond::K10 => "refused K10",
     }
 }
 

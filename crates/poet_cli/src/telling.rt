@@ -14,7 +14,8 @@ const USAGE: &str = "usage: poet check SHEET CERT [deadlines] \
     | simulate SHEET dense N | simulate SHEET seed S N \
     | audit SHEET RUN \
     | report SHEET CERT text|json \
-    | exercise S N\n";
+    | exercise S N \
+    | upgrade SHEET CERT\n";
 
 #[tactic(auto, unfolding(crate::specs::Refusals::field_word))]
 fn field_word(field: Field) -> &'static str
@@ -246,6 +247,10 @@ fn write_refusal<E: Sink>(refusal: &Refusal, err: &mut E) -> Result<(), SinkFaul
         Refusal::Points(name) => write_points(name.as_str(), err),
         Refusal::Jobs => write_all(err, "limit: jobs exceed 20000\n".as_bytes()),
         Refusal::Segments => write_all(err, "limit: segments exceed 1000000\n".as_bytes()),
+        Refusal::LongUpgrade => write_all(
+            err,
+            "limit: upgraded certificate is longer than 67108864 bytes\n".as_bytes(),
+        ),
         Refusal::Memory => write_all(err, "memory\n".as_bytes()),
     }
 }

@@ -16,6 +16,7 @@ use crate::printed::Ending;
 use crate::refusal::Refusal;
 use crate::simulating::simulate_ending;
 use crate::telling::tell;
+use crate::upgrading::upgrade_ending;
 use crate::viewing::View;
 use poet_io::{Shelf, Sink};
 use std::alloc::Global;
@@ -44,6 +45,7 @@ fn command_ending<H: Shelf>(alloc: Global, command: Command<'_>, shelf: &mut H) 
             form,
         } => judge_ending(alloc, sheet, certificate, View::Report(form), shelf),
         Command::Exercise { seed, tasks } => exercise_ending(alloc, seed, tasks),
+        Command::Upgrade { sheet, certificate } => upgrade_ending(alloc, sheet, certificate, shelf),
     }
 }
 

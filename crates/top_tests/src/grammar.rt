@@ -6,7 +6,7 @@ use std::process::Abort;
 use std::test::Fail;
 use top_cases::files::{ONE_TASK, USAGE};
 
-const UNREAD: [&str; 19] = [
+const UNREAD: [&str; 21] = [
     "check",
     "check s",
     "check x",
@@ -26,6 +26,8 @@ const UNREAD: [&str; 19] = [
     "exercise 7 65",
     "exercise 7 0",
     "exercise -1 1",
+    "upgrade s",
+    "upgrade s c deadlines",
 ];
 
 fn assert_unread(rt: &impl Abort, alloc: Global, words: &Vec<String>) -> Result<(), AllocError> {

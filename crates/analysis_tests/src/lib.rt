@@ -16,6 +16,8 @@ mod needs;
 #[cfg(test)]
 mod offsets;
 #[cfg(test)]
+mod pieces;
+#[cfg(test)]
 mod points;
 #[cfg(test)]
 mod sheets;

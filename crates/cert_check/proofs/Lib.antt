@@ -1,2 +1,5 @@
 pub mod Soundness
 pub mod FoldFacts
+pub mod StandingFacts
+pub mod GapFacts
+pub mod CheckerFacts

@@ -1,18 +1,16 @@
-//! The verdict over the bytes of a certificate.
-ghost use Rattle.std.specs.Prelude.{◌≡◌, IfOk, None};
+//! The verdict on a certificate.
+ghost use Rattle.std.specs.Prelude.{◌≡◌, None};
 ghost use Rattle.certificate.specs.Text.{IsWithinGrammar};
 ghost use Rattle.preemption.specs.CutLaws.{Serves};
 ghost use Rattle.conditions.specs.Conditions.{failed_of};
-ghost use Rattle.cert_check.specs.Verdicts.{bounds_of, cert_verdict_of, AreSound, IsVerdict, IsBoundedBy};
+ghost use Rattle.cert_check.specs.Verdicts.{bounds_of, AreSound};
 
 use abstract_rta::points_bound;
-use certificate::{Cert, read_cert};
+use certificate::Cert;
 use conditions::{Failed, failed_means, first_failed};
 use lists::Items;
-use poet_io::TextRefusal;
 use policy::Policy;
 use preemption::Preemption;
-use std::alloc::{AllocError, Global};
 use supply::Supply;
 use task_sheet::Sheet;
 
@@ -25,19 +23,6 @@ pub enum Verdict {
     Text { line: u64 },
     /// The first condition that fails.
     Refused(Failed),
-}
-
-/// The bounds of a certificate, in the tasks' order.
-fn bounds(alloc: Global, cert: &Cert) -> Result<Items<u64>, AllocError>
-    ensures { IfOk result (λ bounds. bounds ≡ bounds_of cert.now) }
-{
-    let bounds = cert
-        .entries
-        .as_slice()
-        .iter()
-        .map(|entry| entry.bound)
-        .collect(alloc)?;
-    Ok(Items::new(bounds))
 }
 
 /// The first condition that a certificate fails to meet for a sheet, with `deadlines` also that each
@@ -65,36 +50,4 @@ pub fn judge_cert<P: Policy, M: Preemption, S: Supply>(
     // for the proof: the sheet is valid
     let _valid = sheet.len();
     first_failed::<P, M, S>(sheet, supply, cert, deadlines)
-}
-
-/// Judges the text of a certificate for a sheet, and with `deadlines` also that each bound is at
-/// most its task's deadline.
-///
-/// Where the verdict is `Accepted`, the response times of every run that complies with the sheet
-/// are bounded by the bounds, and with `deadlines` by the tasks' deadlines.
-#[tactic(auto, unfolding(crate::specs::Verdicts::cert_verdict_of))]
-pub fn check_cert<P: Policy, M: Preemption, S: Supply>(
-    alloc: Global,
-    sheet: &Sheet,
-    supply: &S,
-    deadlines: bool,
-    bytes: &[u8],
-) -> Result<Verdict, AllocError>
-    requires { Serves M.cuts sheet.now }
-    ensures defined { IfOk result (λ v.
-        v ≡ cert_verdict_of P.meaning M.cuts (S.sbf supply.now) sheet.now deadlines bytes.now) }
-    ensures judged { IfOk result
-        (IsVerdict P.meaning M.cuts (S.sbf supply.now) sheet.now deadlines bytes.now) }
-    ensures bounded { IfOk result
-        (IsBoundedBy P.meaning M.cuts (S.sbf supply.now) sheet.now deadlines) }
-{
-    let cert = match read_cert(alloc, bytes) {
-        Ok(cert) => cert,
-        Err(TextRefusal::Line(line)) => return Ok(Verdict::Text { line }),
-        Err(TextRefusal::Memory) => return Err(AllocError),
-    };
-    if let Some(failed) = judge_cert::<P, M, S>(sheet, supply, &cert, deadlines) {
-        return Ok(Verdict::Refused(failed));
-    }
-    Ok(Verdict::Accepted(bounds(alloc, &cert)?))
 }

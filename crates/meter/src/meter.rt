@@ -3,7 +3,7 @@ ghost use Rattle.std.specs.Prelude.{◌≡◌, ◌≤◌, ◌<◌, ◌^◌, leng
 ghost use Rattle.lists.specs.Limits.{greatest_number};
 ghost use Rattle.lists.specs.Searches.{IsFirstBelow};
 ghost use Rattle.preemption.specs.CutLaws.{Serves};
-ghost use Rattle.demand.specs.Demand.{blocking_of, need_of};
+ghost use Rattle.demand.specs.Demand.{blocking_of, need_of, rest_of};
 ghost use Rattle.search_space.specs.Points.{IsPointAfter};
 ghost use Rattle.meter.specs.Meters.{meter_at};
 
@@ -148,6 +148,13 @@ impl<'a, P: Policy, M: Preemption> Meter<'a, P, M> {
         ensures bound { result ≤ 2 ^ 93 }
     {
         self.blocker.block as u128 + (self.tracks.sum - self.rest as u128)
+    }
+
+    /// The ticks that a job of its task has still to run once it has had its threshold.
+    pub fn rest(&self) -> u64
+        ensures { result ≡ rest_of M.cuts self.now.sheet self.now.task }
+    {
+        self.rest
     }
 
     /// The least point of its task that is greater than its offset and smaller than `below`.

@@ -18,7 +18,12 @@ use Rattle.poet_cli.specs.Steps.{Gives, After, Reads, ReadsSheet, NoFile, OneFil
 use Rattle.poet_cli.specs.Origins.{OfOneFile, OfTwoFiles}
 use Rattle.poet_cli.specs.Works.{Work}
 use Rattle.poet_cli.specs.Program.{Plan, Alone, OverSheet, OverBoth, plan_of, PlanDoes, PlanSays, Does, Headline, Objection}
-use Rattle.poet_cli.specs.Clauses.{LeavesShelf}
+use Rattle.poet_cli.specs.Clauses.{Outside, LeavesShelf, Told, Did}
+
+-- a command that ended so, and how that was told
+pub told_did : (asked : Option Asked) (before after : Outside) (status : ℕ) (ending : Ending) → Does asked before.shelf after.shelf ending →
+    Told ending before.sinks after.sinks status → Did asked before after status
+told_did asked before after status ending does told = record { ending = ending; does = does; told = told }
 
 -- a sheet was read from these bytes
 sheet_is : (read : Result SheetParts SheetRefusal) (parts : SheetParts) → sheet_read read ≡ Ok parts → read ≡ Ok parts

@@ -18,3 +18,4 @@ pub mod Refusing
 pub mod Works
 pub mod Program
 pub mod Clauses
+pub mod CertVerdicts

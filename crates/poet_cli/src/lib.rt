@@ -4,18 +4,20 @@
 
 mod analysing;
 mod auditing;
+mod checking;
 mod exercising;
 mod grammar;
-mod judging;
 mod on_sheet;
 mod printed;
 mod printing;
 mod reading;
 mod refusal;
+mod reporting;
 mod run_printing;
 mod simulating;
 mod telling;
 mod top;
-mod viewing;
+mod verdict_telling;
 
+pub use checking::judge;
 pub use top::poet_run;

@@ -68,7 +68,8 @@ pub fn accepted(alloc: Global, sheet: &Sheet, bounds: &[u64]) -> Result<Items<u8
     Ok(Items::new(text))
 }
 
-fn cond_text(cond: Cond) -> &'static str
+/// The words of a refused condition.
+pub fn cond_text(cond: Cond) -> &'static str
     ensures { result.now ≡ cond_text_of cond }
 {
     match cond {

@@ -263,7 +263,7 @@ fn tell_refusal<E: Sink>(refusal: &Refusal, err: &mut E) -> u8
 
 /// The status of a text that was written, or else 4 and its line.
 #[tactic(auto, using(poet_io::proofs::Telling::wrote_line, poet_io::proofs::Writing::stayed_same), unfolding(crate::specs::Refusals::write_failed))]
-fn finish<E: Sink>(written: Result<(), SinkFault>, status: u8, err: &mut E) -> u8
+pub fn finish<E: Sink>(written: Result<(), SinkFault>, status: u8, err: &mut E) -> u8
     ensures { Finished written status (E.written err.old) (E.written err.new) (E.faults err.old)
         (E.faults err.new) result }
 {

@@ -7,34 +7,33 @@ use Rattle.poet_cli.proofs.top.poet_run.Goals as goal
 
 pub returns-clause-answers : goal.returns-clause-answers
 returns-clause-answers g c =
-    let does = rw c.deref.ensures.value at c.ending_of-ending.ensures in
-    answers_from _ _ _ _ _ _ _ _ (does_found _ _ _ _ does) (does_may _ _ _ _ does) c.tell.ensures
+    let did = rw c.deref.ensures.value at c.run.ensures in
+    answers_from _ _ _ _ _ _ _ _ (does_found _ _ _ _ did.does) (does_may _ _ _ _ did.does) did.told
 
 pub returns-clause-did : goal.returns-clause-did
-returns-clause-did g c =
-    record { ending = c.ending_of-ending.result; does = rw c.deref.ensures.value at c.ending_of-ending.ensures; told = c.tell.ensures }
+returns-clause-did g c = rw c.deref.ensures.value at c.run.ensures
 
 pub returns-clause-opened : goal.returns-clause-opened
 returns-clause-opened g c =
-    let does = rw c.deref.ensures.value at c.ending_of-ending.ensures in
-    does_open _ _ _ _ does
+    let did = rw c.deref.ensures.value at c.run.ensures in
+    does_open _ _ _ _ did.does
 
 pub returns-clause-usage : goal.returns-clause-usage
 returns-clause-usage g c =
-    let does = rw c.deref.ensures.value at c.ending_of-ending.ensures in
-    usage_told _ _ _ _ c.tell.ensures (does_usage _ _ _ _ does)
+    let did = rw c.deref.ensures.value at c.run.ensures in
+    usage_told _ _ _ _ did.told (does_usage _ _ _ _ did.does)
 
 pub returns-clause-headline : goal.returns-clause-headline
 returns-clause-headline g c =
-    let does = rw c.deref.ensures.value at c.ending_of-ending.ensures in
-    holds_told _ _ _ _ _ _ c.tell.ensures (does_sound _ _ _ _ does)
+    let did = rw c.deref.ensures.value at c.run.ensures in
+    holds_told _ _ _ _ _ _ did.told (does_sound _ _ _ _ did.does)
 
 pub returns-clause-objection : goal.returns-clause-objection
 returns-clause-objection g c =
-    let does = rw c.deref.ensures.value at c.ending_of-ending.ensures in
-    fails_told _ _ _ _ _ _ c.tell.ensures (does_sound _ _ _ _ does)
+    let did = rw c.deref.ensures.value at c.run.ensures in
+    fails_told _ _ _ _ _ _ did.told (does_sound _ _ _ _ did.does)
 
 pub returns-clause-shelf : goal.returns-clause-shelf
 returns-clause-shelf g c =
-    let does = rw c.deref.ensures.value at c.ending_of-ending.ensures in
-    leaves_told _ _ _ _ (does_leave _ _ _ _ does) (read_told _ _ _ _ c.tell.ensures)
+    let did = rw c.deref.ensures.value at c.run.ensures in
+    leaves_told _ _ _ _ (does_leave _ _ _ _ did.does) (read_told _ _ _ _ did.told)

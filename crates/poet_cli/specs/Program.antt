@@ -7,7 +7,7 @@ use Rattle.poet_cli.specs.declared.refusal.Source.{Source}
 use Rattle.poet_cli.specs.declared.refusal.Source.TheVariants as source
 use Rattle.poet_cli.specs.declared.refusal.Refusal.{Refusal}
 use Rattle.poet_cli.specs.declared.refusal.Refusal.TheVariants.{Usage}
-use Rattle.poet_cli.specs.Words.{Asked, CheckOf, AnalyseOf, SimulateOf, AuditOf, ReportOf, ExerciseOf}
+use Rattle.poet_cli.specs.Words.{Asked, CheckOf, AnalyseOf, SimulateOf, AuditOf, ReportOf, ExerciseOf, AssignOf}
 use Rattle.poet_cli.specs.Endings.{Ending, next}
 use Rattle.poet_cli.specs.Answers.{file_in, sheet_in}
 use Rattle.poet_cli.specs.ReportAnswers.{report_of}
@@ -16,7 +16,7 @@ use Rattle.poet_cli.specs.Readings.{ShelfAt}
 use Rattle.poet_cli.specs.Steps.{NoFile, OneFile, TwoFiles}
 use Rattle.poet_cli.specs.Origins.{OfOneFile, OfTwoFiles}
 use Rattle.poet_cli.specs.Refusing.{NoText, IsTextOf, IsNoRefusal, IsPointsRefusal, IsRunRefusal, MayRefuse, NoSource, IsSheet, IsSheetOr}
-use Rattle.poet_cli.specs.Works.{Work, judge_work, analyse_work, simulate_work, audit_work, exercise_work, Judges}
+use Rattle.poet_cli.specs.Works.{Work, judge_work, analyse_work, simulate_work, audit_work, exercise_work, assign_work, Judges}
 
 -- which files a command reads, the refusals of its own, and its work over what it read
 pub data Plan : Type 1 where
@@ -34,6 +34,7 @@ plan_of (AuditOf sheet run) = OverBoth sheet source.Run run IsNoRefusal audit_wo
 plan_of (ReportOf sheet certificate form) =
     OverBoth sheet source.Certificate certificate IsNoRefusal (judge_work (report_of form) false)
 plan_of (ExerciseOf seed tasks) = Alone IsNoRefusal (exercise_work seed tasks)
+plan_of (AssignOf sheet horizon) = OverSheet sheet IsNoRefusal (assign_work horizon)
 
 -- the files that it reads
 abbrev pub plan_files : Plan → List (List ℕ)

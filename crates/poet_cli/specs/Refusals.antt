@@ -87,7 +87,8 @@ line_of Usage =
     ++ (codes " | audit SHEET RUN"
     ++ (codes " | report SHEET CERT text|json"
     ++ (codes " | exercise S N"
-    ++ codes "\n")))))
+    ++ (codes " | assign SHEET HORIZON"
+    ++ codes "\n"))))))
 line_of (Read which) = codes "read failed: " ++ (source_word which ++ codes "\n")
 line_of (Sheet refusal) = sheet_line refusal
 line_of (Text which line) =

@@ -3,6 +3,7 @@
 #![tactic(auto)]
 
 mod analysing;
+mod assigning;
 mod auditing;
 mod exercising;
 mod grammar;

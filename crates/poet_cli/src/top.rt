@@ -8,6 +8,7 @@ ghost use Rattle.poet_cli.specs.Program.{Does, answer_of, MayFail, files_of, Hea
 ghost use Rattle.poet_cli.specs.Clauses.{outlets, outside, Answers, Did, LeavesShelf};
 
 use crate::analysing::analyse_ending;
+use crate::assigning::assign_ending;
 use crate::auditing::audit_ending;
 use crate::exercising::exercise_ending;
 use crate::grammar::{Command, command_of};
@@ -44,6 +45,7 @@ fn command_ending<H: Shelf>(alloc: Global, command: Command<'_>, shelf: &mut H) 
             form,
         } => judge_ending(alloc, sheet, certificate, View::Report(form), shelf),
         Command::Exercise { seed, tasks } => exercise_ending(alloc, seed, tasks),
+        Command::Assign { sheet, horizon } => assign_ending(alloc, sheet, horizon, shelf),
     }
 }
 

@@ -11,3 +11,4 @@ pub mod Found
 pub mod Single
 pub mod Theorems
 pub mod Worked
+pub mod BoundFacts

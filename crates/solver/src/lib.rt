@@ -2,6 +2,7 @@
 #![tactic(auto)]
 
 mod analysis;
+mod bounds;
 mod ends;
 mod entries;
 mod laws;
@@ -10,5 +11,6 @@ mod searches;
 mod windows;
 
 pub use analysis::{AnalyseRefusal, Part, analyse};
+pub use bounds::{task_bound, task_has_one_bound};
 pub use meaning::analysis_has_one_answer;
 pub use searches::{least_bound, least_end, least_window};

@@ -63,7 +63,7 @@ pub valid_with_fp : (sheet : SheetParts) → IsValidSheet sheet → IsValidSheet
 valid_with_fp sheet ok = record { supply = ok.supply; some = ok.some; few = ok.few; each = λ i b. ok.each i b; distinct = λ i k l b. ok.distinct i k l b }
 
 -- a whole list in the place of one of the same length
-refill_whole : {X : Type 0} (xs ws : List X) → length ws ≡ length xs → refill (length xs) xs ws ≡ ws
+pub refill_whole : {X : Type 0} (xs ws : List X) → length ws ≡ length xs → refill (length xs) xs ws ≡ ws
 refill_whole xs ws e =
     let none : drop (length ws) xs ≡ [] = drop_all (length ws) xs (omega (arith, e)) in
     ap (λ (rest : List _). take (length xs) (ws ++ rest)) none ∙ ap (take (length xs)) (append-nil ws) ∙ take_all (length xs) ws (omega (arith, e))

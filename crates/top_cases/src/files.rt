@@ -45,6 +45,16 @@ pub const EIGHT_TASKS: &str =
 pub const EIGHT_TASKS_CERT: &str =
     "poet-cert 1\ntasks 8\ntask 0 619 619 1\np 0 619\ntask 1 819 819 1\np 0 620\ntask 2 979 979 1\np 0 979\ntask 3 1699 1699 1\np 0 1600\ntask 4 3199 3199 1\np 0 3199\ntask 5 5899 5899 1\np 0 5899\ntask 6 13140 10440 1\np 0 9941\ntask 7 29820 29820 1\np 0 29820\nend\n";
 
+pub const SLOW_AND_FAST: &str =
+    "policy = \"fp\"\n\n[[task]]\nname = \"slow\"\ncost = 3\ndeadline = 10\npriority = 1\nperiod = 10\n\n[[task]]\nname = \"fast\"\ncost = 1\ndeadline = 2\npriority = 1\nperiod = 4\n";
+
+/// No order serves both.
+pub const TWINS: &str =
+    "policy = \"fp\"\n\n[[task]]\nname = \"x\"\ncost = 1\ndeadline = 1\npriority = 1\nperiod = 4\n\n[[task]]\nname = \"y\"\ncost = 1\ndeadline = 1\npriority = 1\nperiod = 4\n";
+
+pub const LATER_TWINS: &str =
+    "policy = \"fp\"\n\n[[task]]\nname = \"x\"\ncost = 1\ndeadline = 2\npriority = 1\nperiod = 4\n\n[[task]]\nname = \"y\"\ncost = 1\ndeadline = 2\npriority = 1\nperiod = 4\n";
+
 pub const OVERLOAD: &str =
     "policy = \"fp\"\n\n[[task]]\nname = \"high\"\ncost = 3\ndeadline = 4\npriority = 2\nperiod = 4\n\n[[task]]\nname = \"low\"\ncost = 2\ndeadline = 4\npriority = 1\nperiod = 4\n";
 
@@ -80,4 +90,4 @@ pub const SEGMENTED: &str =
     "policy = \"fp\"\n\n[[task]]\nname = \"a\"\ncost = 1000001\ndeadline = 10000000\npriority = 1\nperiod = 10000000\npreemption = { floating = 1 }\n";
 
 pub const USAGE: &str =
-    "usage: poet check SHEET CERT [deadlines] | analyse SHEET HORIZON | simulate SHEET dense N | simulate SHEET seed S N | audit SHEET RUN | report SHEET CERT text|json | exercise S N\n";
+    "usage: poet check SHEET CERT [deadlines] | analyse SHEET HORIZON | simulate SHEET dense N | simulate SHEET seed S N | audit SHEET RUN | report SHEET CERT text|json | exercise S N | assign SHEET HORIZON\n";

@@ -5,6 +5,8 @@
 #[cfg(test)]
 mod analyses;
 #[cfg(test)]
+mod assignments;
+#[cfg(test)]
 mod cases;
 #[cfg(test)]
 mod checks;

@@ -15,4 +15,6 @@ mod grammar;
 #[cfg(test)]
 mod jitters;
 #[cfg(test)]
+mod points;
+#[cfg(test)]
 mod whole;

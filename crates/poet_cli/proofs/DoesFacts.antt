@@ -30,6 +30,7 @@ sheet_is (Err (sheets.Missing place field)) parts e = absurd (cc)
 sheet_is (Err (sheets.Kind place field)) parts e = absurd (cc)
 sheet_is (Err (sheets.Range place field)) parts e = absurd (cc)
 sheet_is (Err (sheets.Order place field)) parts e = absurd (cc)
+sheet_is (Err sheets.Mixed) parts e = absurd (cc)
 sheet_is (Err (sheets.Both task)) parts e = absurd (cc)
 sheet_is (Err (sheets.Twice task)) parts e = absurd (cc)
 sheet_is (Err (sheets.Sum task)) parts e = absurd (cc)
@@ -52,20 +53,20 @@ gave_from which name Ends before now value reads = gave_by which name Ends befor
 module _ (name : List ℕ) (Ends : SheetParts → Ending → Type 0) (before now : ShelfAt) (print : Printed) (Holds : SheetParts →
     Type 0) (holds : (parts : SheetParts) → Ends parts (Ok print) → Holds parts) where
   one_of_by : (gave : Result SheetParts Refusal) → ReadsSheet name before now gave → After Ends gave (Ok print) →
-      OfOneFile name before.files before.log now.log Holds
+      OfOneFile name before.files before.log now.log (λ bytes. Holds)
   one_of_by (Ok parts) sheet after =
       let from : Gave source.Sheet name (λ bytes. Gives (sheet_by bytes)) before now parts = gave_from source.Sheet name _ before now parts sheet in
       record { bytes = from.bytes; read = from.read; sheet = parts; is_sheet = sheet_is _ parts from.ends; holds = holds parts after }
   one_of_by (Err refusal) sheet after = absurd (cc)
 
-  one_of : OneFile name Ends before now (Ok print) → OfOneFile name before.files before.log now.log Holds
+  one_of : OneFile name Ends before now (Ok print) → OfOneFile name before.files before.log now.log (λ bytes. Holds)
   one_of one = one_of_by one.gave one.sheet one.after
 
 module _ (sheet_name : List ℕ) (which : Source) (name : List ℕ) (Ends : SheetParts → List ℕ → Ending →
     Type 0) (before now : ShelfAt) (print : Printed) (Holds : SheetParts → List ℕ → Type 0)
     (holds : (parts : SheetParts) (bytes : List ℕ) → Ends parts bytes (Ok print) → Holds parts bytes) where
   two_of_by : (middle : ShelfAt) (gave : Result SheetParts Refusal) → ReadsSheet sheet_name before middle gave →
-      ReadsNext which name Ends gave middle now (Ok print) → OfTwoFiles sheet_name which name before.files before.log now.log Holds
+      ReadsNext which name Ends gave middle now (Ok print) → OfTwoFiles sheet_name which name before.files before.log now.log (λ sheet_bytes. Holds)
   two_of_by middle (Ok parts) sheet next =
       let from : Gave source.Sheet sheet_name (λ bytes. Gives (sheet_by bytes)) before middle parts =
       gave_from source.Sheet sheet_name _ before middle parts sheet in
@@ -82,7 +83,7 @@ module _ (sheet_name : List ℕ) (which : Source) (name : List ℕ) (Ends : Shee
       }
   two_of_by middle (Err refusal) sheet next = absurd (cc (next.1))
 
-  two_of : TwoFiles sheet_name which name Ends before now (Ok print) → OfTwoFiles sheet_name which name before.files before.log now.log Holds
+  two_of : TwoFiles sheet_name which name Ends before now (Ok print) → OfTwoFiles sheet_name which name before.files before.log now.log (λ sheet_bytes. Holds)
   two_of two = two_of_by two.middle two.gave two.sheet two.next
 
 -- what is printed is true

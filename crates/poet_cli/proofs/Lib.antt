@@ -10,3 +10,4 @@ mod LengthFacts
 mod AnalysisFacts
 mod SimulationFacts
 mod JudgeFacts
+mod TableFacts

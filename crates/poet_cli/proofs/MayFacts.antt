@@ -75,6 +75,7 @@ module _ (IsRead : Source → Type 0) (IsOwn : Refusal → Type 0) where
       cc in subst May same (is, λ m. absurd (cc))
   sheet_refusal is (Err (sheets.Order place field)) refusal e = let same : Sheet (sheets.Order place field) ≡ refusal =
       cc in subst May same (is, λ m. absurd (cc))
+  sheet_refusal is (Err sheets.Mixed) refusal e = let same : Sheet sheets.Mixed ≡ refusal = cc in subst May same (is, λ m. absurd (cc))
   sheet_refusal is (Err (sheets.Both task)) refusal e = let same : Sheet (sheets.Both task) ≡ refusal = cc in subst May same (is, λ m. absurd (cc))
   sheet_refusal is (Err (sheets.Twice task)) refusal e = let same : Sheet (sheets.Twice task) ≡ refusal = cc in subst May same (is, λ m. absurd (cc))
   sheet_refusal is (Err (sheets.Sum task)) refusal e = let same : Sheet (sheets.Sum task) ≡ refusal = cc in subst May same (is, λ m. absurd (cc))

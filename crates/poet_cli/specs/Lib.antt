@@ -6,6 +6,7 @@ pub mod RunPrinting
 pub mod Answers
 pub mod RunAnswers
 pub mod ExerciseAnswers
+pub mod PromiseAnswers
 pub mod Readings
 pub mod Steps
 pub mod Openings
@@ -17,4 +18,5 @@ pub mod Objections
 pub mod Refusing
 pub mod Works
 pub mod Program
+pub mod TableHeadline
 pub mod Clauses

@@ -7,7 +7,7 @@ use Rattle.poet_cli.specs.declared.refusal.Source.{Source}
 use Rattle.poet_cli.specs.declared.refusal.Source.TheVariants as source
 use Rattle.poet_cli.specs.declared.refusal.Refusal.{Refusal}
 use Rattle.poet_cli.specs.declared.refusal.Refusal.TheVariants.{Usage}
-use Rattle.poet_cli.specs.Words.{Asked, CheckOf, AnalyseOf, SimulateOf, AuditOf, ReportOf, ExerciseOf}
+use Rattle.poet_cli.specs.Words.{Asked, CheckOf, AnalyseOf, SimulateOf, AuditOf, ReportOf, ExerciseOf, PromiseOf}
 use Rattle.poet_cli.specs.Endings.{Ending, next}
 use Rattle.poet_cli.specs.Answers.{file_in, sheet_in}
 use Rattle.poet_cli.specs.ReportAnswers.{report_of}
@@ -16,7 +16,7 @@ use Rattle.poet_cli.specs.Readings.{ShelfAt}
 use Rattle.poet_cli.specs.Steps.{NoFile, OneFile, TwoFiles}
 use Rattle.poet_cli.specs.Origins.{OfOneFile, OfTwoFiles}
 use Rattle.poet_cli.specs.Refusing.{NoText, IsTextOf, IsNoRefusal, IsPointsRefusal, IsRunRefusal, MayRefuse, NoSource, IsSheet, IsSheetOr}
-use Rattle.poet_cli.specs.Works.{Work, judge_work, analyse_work, simulate_work, audit_work, exercise_work, Judges}
+use Rattle.poet_cli.specs.Works.{Work, judge_work, analyse_work, simulate_work, audit_work, exercise_work, promise_work, Judges}
 
 -- which files a command reads, the refusals of its own, and its work over what it read
 pub data Plan : Type 1 where
@@ -34,6 +34,7 @@ plan_of (AuditOf sheet run) = OverBoth sheet source.Run run IsNoRefusal audit_wo
 plan_of (ReportOf sheet certificate form) =
     OverBoth sheet source.Certificate certificate IsNoRefusal (judge_work (report_of form) false)
 plan_of (ExerciseOf seed tasks) = Alone IsNoRefusal (exercise_work seed tasks)
+plan_of (PromiseOf sheet) = OverSheet sheet IsNoRefusal promise_work
 
 -- the files that it reads
 abbrev pub plan_files : Plan → List (List ℕ)
@@ -93,9 +94,10 @@ abbrev pub PlanSays : (Work → List ℕ → Type 0) → Plan → Option Files �
     List ℕ → Type 0
 PlanSays Part (Alone IsOwn work) told before now text = Part work text
 PlanSays Part (OverSheet name IsOwn work) told before now text =
-    OfOneFile name told before now (λ parts. Part (work parts) text)
+    OfOneFile name told before now (λ sheet_bytes parts. Part (work parts) text)
 PlanSays Part (OverBoth sheet which name IsOwn work) told before now text =
-    OfTwoFiles sheet which name told before now (λ parts bytes. Part (work parts bytes) text)
+    OfTwoFiles sheet which name told before now
+    (λ sheet_bytes parts bytes. Part (work parts bytes) text)
 
 -- what status 0 says of the bytes that were read and of the text
 abbrev pub Headline : Option Asked → Option Files → List Event → List Event → List ℕ → Type 0
@@ -103,7 +105,7 @@ Headline None told before now text = ⊥
 Headline (Some asked) told before now text =
     PlanSays (λ work. work.holds) (plan_of asked) told before now text
 
--- what status 1 says of them; simulate and exercise never answer it
+-- what status 1 says of them; simulate, exercise and promise never answer it
 abbrev pub Objection : Option Asked → Option Files → List Event → List Event → List ℕ → Type 0
 Objection None told before now text = ⊥
 Objection (Some asked) told before now text =

@@ -8,7 +8,7 @@ use Rattle.simulated_run.specs.declared.mode.Mode.TheVariants.{Dense, Seed}
 use Rattle.poet_cli.specs.declared.grammar.Form.{Form}
 use Rattle.poet_cli.specs.declared.grammar.Form.TheVariants as forms
 use Rattle.poet_cli.specs.declared.grammar.Command.{Command}
-use Rattle.poet_cli.specs.declared.grammar.Command.TheVariants.{Check, Analyse, Simulate, Audit, Report, Exercise}
+use Rattle.poet_cli.specs.declared.grammar.Command.TheVariants.{Check, Analyse, Simulate, Audit, Report, Exercise, Promise}
 
 -- a command, with its words
 pub data Asked : Type 0 where
@@ -18,6 +18,7 @@ pub data Asked : Type 0 where
   AuditOf : List ℕ → List ℕ → Asked
   ReportOf : List ℕ → List ℕ → Form → Asked
   ExerciseOf : ℕ → ℕ → Asked
+  PromiseOf : List ℕ → Asked
 
 -- a horizon, a number of ticks, a number of tasks, and a seed
 abbrev pub horizon_in : List ℕ → Option ℕ
@@ -59,6 +60,10 @@ abbrev pub seeded_in : List ℕ → Option ℕ → Option ℕ → Option Asked
 seeded_in sheet None ticks = None
 seeded_in sheet (Some seed) ticks = given ticks (SimulateOf sheet (Seed seed))
 
+-- promise SHEET
+unfoldable pub one_word : List ℕ → List ℕ → Option Asked
+one_word command first = if bytes_eq command (codes "promise") then Some (PromiseOf first) else None
+
 -- check SHEET CERT, analyse SHEET HORIZON, audit SHEET RUN, or exercise S N
 unfoldable pub two_words : List ℕ → List ℕ → List ℕ → Option Asked
 two_words command first second =
@@ -82,6 +87,7 @@ four_words command first second third fourth =
 
 -- the word grammar
 abbrev pub command_in : List (List ℕ) → Option Asked
+command_in (command ∷ first ∷ []) = one_word command first
 command_in (command ∷ first ∷ second ∷ []) = two_words command first second
 command_in (command ∷ first ∷ second ∷ third ∷ []) = three_words command first second third
 command_in (command ∷ first ∷ second ∷ third ∷ fourth ∷ []) = four_words command first second third fourth
@@ -98,6 +104,7 @@ asked_by (Simulate sheet mode ticks) = SimulateOf sheet.now mode ticks
 asked_by (Audit sheet run) = AuditOf sheet.now run.now
 asked_by (Report sheet certificate form) = ReportOf sheet.now certificate.now form
 asked_by (Exercise seed tasks) = ExerciseOf seed tasks
+asked_by (Promise sheet) = PromiseOf sheet.now
 
 -- the command is what the words ask for
 abbrev pub IsAsked : Option Asked → Option Command → Type 0
@@ -115,3 +122,4 @@ IsInRange (Simulate sheet mode ticks) = ticks ≤ most_ticks
 IsInRange (Audit sheet run) = Unit {0}
 IsInRange (Report sheet certificate form) = Unit {0}
 IsInRange (Exercise seed tasks) = (1 ≤ tasks) × (tasks ≤ 64)
+IsInRange (Promise sheet) = Unit {0}

@@ -10,6 +10,7 @@ use Rattle.poet_cli.specs.Endings.{Ending, IsSound}
 use Rattle.poet_cli.specs.Answers.{judge_by, analyse_by}
 use Rattle.poet_cli.specs.RunAnswers.{simulate_by, audit_by}
 use Rattle.poet_cli.specs.ExerciseAnswers.{exercise_answer}
+use Rattle.poet_cli.specs.PromiseAnswers.{promise_by, PromiseIsPrinted}
 use Rattle.poet_cli.specs.Steps.{Gives}
 use Rattle.poet_cli.specs.Refusing.{IsOf, NoText, IsTextOf, IsNoRefusal, IsPointsRefusal, IsRunRefusal}
 use Rattle.poet_cli.specs.Analyses.{BestHolds, NoneHolds}
@@ -46,6 +47,9 @@ abbrev pub exercise_work : ℕ → ℕ → Work
 exercise_work seed tasks =
     work (exercise_answer seed tasks) (ExerciseIsPrinted seed tasks) Never
 
+abbrev pub promise_work : SheetParts → Work
+promise_work sheet = work (promise_by sheet) (PromiseIsPrinted sheet) Never
+
 -- the ending is the answer, or want of memory; what is printed is true; and a refusal is one of these
 pub record Judges (IsText : Source → Type 0) (IsOwn : Refusal → Type 0) (work : Work)
     (ending : Ending) : Type 0 where
@@ -69,3 +73,6 @@ AuditDoes sheet bytes = Judges (IsTextOf source.Run) IsNoRefusal (audit_work she
 
 abbrev pub ExerciseDoes : ℕ → ℕ → Ending → Type 0
 ExerciseDoes seed tasks = Judges NoText IsNoRefusal (exercise_work seed tasks)
+
+abbrev pub PromiseDoes : SheetParts → Ending → Type 0
+PromiseDoes sheet = Judges NoText IsNoRefusal (promise_work sheet)

@@ -1,6 +1,6 @@
 //! The word grammar.
 ghost use Rattle.std.specs.Prelude.{◌≡◌, [], ◌∷◌, map, string_bytes, IfSome};
-ghost use Rattle.poet_cli.specs.Words.{AnalyseOf, SimulateOf, ReportOf, horizon_in, ticks_in, tasks_in, seed_in, form_in, given, check_in, exercise_in, seeded_in, two_words, three_words, four_words, IsAsked, IsCommand, IsInRange};
+ghost use Rattle.poet_cli.specs.Words.{AnalyseOf, SimulateOf, ReportOf, horizon_in, ticks_in, tasks_in, seed_in, form_in, given, check_in, exercise_in, seeded_in, one_word, two_words, three_words, four_words, IsAsked, IsCommand, IsInRange};
 
 use lists::limits::{GREATEST_NUMBER, MOST_TICKS};
 use poet_io::read_number_in;
@@ -48,6 +48,10 @@ pub enum Command<'a> {
     Exercise {
         seed: u64,
         tasks: u32,
+    },
+    /// `promise SHEET`.
+    Promise {
+        sheet: &'a str,
     },
 }
 
@@ -131,6 +135,19 @@ fn report_of<'a>(sheet: &'a str, certificate: &'a str, form: &str) -> Option<Com
     })
 }
 
+/// The command of one word: `promise`.
+#[tactic(auto, unfolding(crate::specs::Words::one_word))]
+fn command_of_one<'a>(command: &str, first: &'a str) -> Option<Command<'a>>
+    ensures defined { IsAsked (one_word command.now first.now) result }
+    ensures in_range { IfSome result IsInRange }
+{
+    if command == "promise" {
+        Some(Command::Promise { sheet: first })
+    } else {
+        None
+    }
+}
+
 /// The commands of two words: `check`, `analyse`, `audit` and `exercise`.
 #[tactic(auto, unfolding(crate::specs::Words::two_words))]
 fn command_of_two<'a>(command: &str, first: &'a str, second: &'a str) -> Option<Command<'a>>
@@ -212,6 +229,7 @@ pub fn command_of(words: &[String]) -> Option<Command<'_>>
     ensures in_range { IfSome result IsInRange }
 {
     match words {
+        [command, first] => command_of_one(command.as_str(), first.as_str()),
         [command, first, second] => command_of_two(
             command.as_str(),
             first.as_str(),

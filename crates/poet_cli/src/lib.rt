@@ -10,6 +10,7 @@ mod judging;
 mod on_sheet;
 mod printed;
 mod printing;
+mod promising;
 mod reading;
 mod refusal;
 mod run_printing;

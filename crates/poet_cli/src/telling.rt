@@ -14,7 +14,8 @@ const USAGE: &str = "usage: poet check SHEET CERT [deadlines] \
     | simulate SHEET dense N | simulate SHEET seed S N \
     | audit SHEET RUN \
     | report SHEET CERT text|json \
-    | exercise S N\n";
+    | exercise S N \
+    | promise SHEET\n";
 
 #[tactic(auto, unfolding(crate::specs::Refusals::field_word))]
 fn field_word(field: Field) -> &'static str
@@ -26,6 +27,8 @@ fn field_word(field: Field) -> &'static str
         Field::Task => "task",
         Field::Horizon => "horizon",
         Field::Times => "times",
+        Field::Cycle => "cycle",
+        Field::Slots => "slots",
         Field::Name => "name",
         Field::Cost => "cost",
         Field::Deadline => "deadline",
@@ -126,6 +129,9 @@ fn write_sheet_refusal<E: Sink>(refusal: SheetRefusal, err: &mut E) -> Result<()
         SheetRefusal::Order { place, field } => {
             write_field(err, "sheet: ", field, " out of order in ", place)
         }
+        SheetRefusal::Mixed => write_at(
+            err, "sheet: both promise and table in ", "", "", Place::Supply,
+        ),
         SheetRefusal::Both { task } => { write_task(err, "sheet: both period and curve in ", task) }
         SheetRefusal::Twice { task } => write_task(err, "sheet: name repeated in ", task),
         SheetRefusal::Sum { task } => {

@@ -5,6 +5,7 @@ ghost use Rattle.poet_cli.specs.Openings.{OpensFront};
 ghost use Rattle.poet_cli.specs.Origins.{WasPrinted};
 ghost use Rattle.poet_cli.specs.Readings.{shelf_at};
 ghost use Rattle.poet_cli.specs.Program.{Does, answer_of, MayFail, files_of, Headline, Objection};
+ghost use Rattle.poet_cli.specs.TableHeadline.{TableHeadline};
 ghost use Rattle.poet_cli.specs.Clauses.{outlets, outside, Answers, Did, LeavesShelf};
 
 use crate::analysing::analyse_ending;
@@ -13,6 +14,7 @@ use crate::exercising::exercise_ending;
 use crate::grammar::{Command, command_of};
 use crate::judging::judge_ending;
 use crate::printed::Ending;
+use crate::promising::promise_ending;
 use crate::refusal::Refusal;
 use crate::simulating::simulate_ending;
 use crate::telling::tell;
@@ -44,6 +46,7 @@ fn command_ending<H: Shelf>(alloc: Global, command: Command<'_>, shelf: &mut H) 
             form,
         } => judge_ending(alloc, sheet, certificate, View::Report(form), shelf),
         Command::Exercise { seed, tasks } => exercise_ending(alloc, seed, tasks),
+        Command::Promise { sheet } => promise_ending(alloc, sheet, shelf),
     }
 }
 
@@ -86,6 +89,9 @@ pub fn poet_run<H: Shelf, O: Sink, E: Sink>(
     ensures usage { result ≡ 2 ↔ (asked_in words.now.items ≡ None) }
     ensures headline { result ≡ 0 → WasPrinted (O.written out.old) (O.written out.new)
         (Headline (asked_in words.now.items)
+        (H.files shelf.old) (H.log shelf.old) (H.log shelf.new)) }
+    ensures table_headline { result ≡ 0 → WasPrinted (O.written out.old) (O.written out.new)
+        (TableHeadline (asked_in words.now.items)
         (H.files shelf.old) (H.log shelf.old) (H.log shelf.new)) }
     ensures objection { result ≡ 1 → WasPrinted (O.written out.old) (O.written out.new)
         (Objection (asked_in words.now.items)

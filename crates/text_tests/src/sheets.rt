@@ -5,7 +5,7 @@ use std::test::Fail;
 use task_sheet::{Field, Place, PolicyKind, SheetRefusal};
 
 /// Texts with the first rule that each breaks.
-const REFUSED: [(&[u8], SheetRefusal); 23] = [
+const REFUSED: [(&[u8], SheetRefusal); 41] = [
     (
         b"",
         SheetRefusal::Missing {
@@ -25,6 +25,125 @@ const REFUSED: [(&[u8], SheetRefusal); 23] = [
         SheetRefusal::Range {
             place: Place::Top,
             field: Field::Task,
+        },
+    ),
+    (
+        b"policy = \"fp\"\nsupply = [[0, 1]]",
+        SheetRefusal::Kind {
+            place: Place::Top,
+            field: Field::Supply,
+        },
+    ),
+    (
+        b"policy = \"fp\"\nsupply = {}",
+        SheetRefusal::Missing {
+            place: Place::Supply,
+            field: Field::Horizon,
+        },
+    ),
+    (
+        b"policy = \"fp\"\nsupply = { cycle = 4, slots = [[2, 2]], phase = 0, times = [1] }",
+        SheetRefusal::Unknown {
+            place: Place::Supply,
+        },
+    ),
+    (
+        b"policy = \"fp\"\nsupply = { cycle = 4, slots = [[2, 2]], times = 1 }",
+        SheetRefusal::Mixed,
+    ),
+    (
+        b"policy = \"fp\"\nsupply = { slots = 0, horizon = 0 }",
+        SheetRefusal::Mixed,
+    ),
+    (
+        b"policy = \"fp\"\nsupply = { slots = 0 }",
+        SheetRefusal::Missing {
+            place: Place::Supply,
+            field: Field::Cycle,
+        },
+    ),
+    (
+        b"policy = \"fp\"\nsupply = { cycle = 4.0 }",
+        SheetRefusal::Kind {
+            place: Place::Supply,
+            field: Field::Cycle,
+        },
+    ),
+    (
+        b"policy = \"fp\"\nsupply = { cycle = 0 }",
+        SheetRefusal::Range {
+            place: Place::Supply,
+            field: Field::Cycle,
+        },
+    ),
+    (
+        b"policy = \"fp\"\nsupply = { cycle = 100001, slots = 0 }",
+        SheetRefusal::Range {
+            place: Place::Supply,
+            field: Field::Cycle,
+        },
+    ),
+    (
+        b"policy = \"fp\"\nsupply = { cycle = 100000 }",
+        SheetRefusal::Missing {
+            place: Place::Supply,
+            field: Field::Slots,
+        },
+    ),
+    (
+        b"policy = \"fp\"\nsupply = { cycle = 4, slots = [2, 2] }",
+        SheetRefusal::Kind {
+            place: Place::Supply,
+            field: Field::Slots,
+        },
+    ),
+    (
+        b"policy = \"fp\"\nsupply = { cycle = 4, slots = [[2, 2, 2], [100000, 0]] }",
+        SheetRefusal::Kind {
+            place: Place::Supply,
+            field: Field::Slots,
+        },
+    ),
+    (
+        b"policy = \"fp\"\nsupply = { cycle = 4, slots = [] }",
+        SheetRefusal::Range {
+            place: Place::Supply,
+            field: Field::Slots,
+        },
+    ),
+    (
+        b"policy = \"fp\"\nsupply = { cycle = 4, slots = [[-1, 2]] }",
+        SheetRefusal::Range {
+            place: Place::Supply,
+            field: Field::Slots,
+        },
+    ),
+    (
+        b"policy = \"fp\"\nsupply = { cycle = 4, slots = [[3, 1], [0, -1]] }",
+        SheetRefusal::Range {
+            place: Place::Supply,
+            field: Field::Slots,
+        },
+    ),
+    (
+        b"policy = \"fp\"\nsupply = { cycle = 4, slots = [[0, 501], [501, 500]] }",
+        SheetRefusal::Range {
+            place: Place::Supply,
+            field: Field::Slots,
+        },
+    ),
+    (
+        b"policy = \"fp\"\nsupply = { cycle = 4, slots = [[2, 2], [0, 1]] }",
+        SheetRefusal::Order {
+            place: Place::Supply,
+            field: Field::Slots,
+        },
+    ),
+    (
+        b"policy = \"fp\"\nsupply = { cycle = 4, slots = [[2, 3]] }",
+        SheetRefusal::Order {
+            place: Place::Supply,
+            field: Field::Slots,
         },
     ),
     (
@@ -168,6 +287,14 @@ const TWO_TASKS: &[u8] = b"policy = \"fp\"\n
 [[task]]\nname = \"a\"\ncost = 1\ndeadline = 4\npriority = 2\nperiod = 4\n
 [[task]]\nname = \"b\"\ncost = 2\ndeadline = 6\npriority = 1\nperiod = 6\n";
 
+/// A time table, which is printed as the promise that it implies.
+const TABLED: &[u8] = b"policy = \"fp\"\nsupply = { cycle = 6, slots = [[0, 1], [3, 2]] }\n
+[[task]]\nname = \"a\"\ncost = 1\ndeadline = 4\npriority = 2\nperiod = 4\n";
+
+const TABLED_PRINTED: &[u8] = b"policy = \"fp\"\n
+[supply]\nhorizon = 6\ntimes = [3, 5, 6]\n
+[[task]]\n";
+
 const FIRST_PRINTED: &[u8] = b"policy = \"fp\"\n
 [[task]]\ncost = 1\ndeadline = 4\nname = \"a\"\npreemption = \"full\"\npriority = 2\n
 [task.curve]\nhorizon = 4\nsteps = [[1, 1]]\n
@@ -250,6 +377,14 @@ fn prints_two_tasks(rt: HostRuntime) -> Result<(), Fail> {
     assert_eq!(rt; again.len(), 2);
     assert_eq!(rt; again.task(1).name.as_str(), "b");
     assert_eq!(rt; again.task(1).curve.at(7), 2);
+    Ok(())
+}
+
+#[test]
+fn prints_a_table_as_its_promise(rt: HostRuntime) -> Result<(), Fail> {
+    let sheet = read_sheet(rt.alloc(), TABLED)?;
+    let text = print_sheet(rt.alloc(), &sheet)?;
+    assert!(rt; text.as_slice().starts_with(TABLED_PRINTED));
     Ok(())
 }
 

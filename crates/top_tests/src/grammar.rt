@@ -6,7 +6,9 @@ use std::process::Abort;
 use std::test::Fail;
 use top_cases::files::{ONE_TASK, USAGE};
 
-const UNREAD: [&str; 19] = [
+const UNREAD: [&str; 21] = [
+    "promise",
+    "promise s unit",
     "check",
     "check s",
     "check x",

@@ -17,4 +17,6 @@ mod jitters;
 #[cfg(test)]
 mod points;
 #[cfg(test)]
+mod tables;
+#[cfg(test)]
 mod whole;

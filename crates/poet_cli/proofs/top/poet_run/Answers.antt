@@ -3,6 +3,7 @@ use Rattle.poet_cli.proofs.MayFacts.{does_may, does_usage}
 use Rattle.poet_cli.proofs.OpeningFacts.{does_open}
 use Rattle.poet_cli.proofs.DoesFacts.{does_sound, does_leave, leaves_told}
 use Rattle.poet_cli.proofs.EndingFacts.{answers_from, usage_told, holds_told, fails_told, read_told}
+use Rattle.poet_cli.proofs.TableFacts.{table_told}
 use Rattle.poet_cli.proofs.top.poet_run.Goals as goal
 
 pub returns-clause-answers : goal.returns-clause-answers
@@ -28,6 +29,11 @@ pub returns-clause-headline : goal.returns-clause-headline
 returns-clause-headline g c =
     let does = rw c.deref.ensures.value at c.ending_of-ending.ensures in
     holds_told _ _ _ _ _ _ c.tell.ensures (does_sound _ _ _ _ does)
+
+pub returns-clause-table_headline : goal.returns-clause-table_headline
+returns-clause-table_headline g c =
+    let does = rw c.deref.ensures.value at c.ending_of-ending.ensures in
+    λ done. table_told _ _ _ _ _ _ (holds_told _ _ _ _ _ _ c.tell.ensures (does_sound _ _ _ _ does) done)
 
 pub returns-clause-objection : goal.returns-clause-objection
 returns-clause-objection g c =

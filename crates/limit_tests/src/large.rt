@@ -52,6 +52,30 @@ fn segmented_task(alloc: Global, count: u32) -> Result<String, AllocError> {
     Ok(text)
 }
 
+/// A sheet with a table of a thousand slots: one tick in each hundred.
+fn table_of_a_thousand(alloc: Global) -> Result<String, AllocError> {
+    let mut text = String::from_str(alloc, "policy = \"fp\"\n\n[supply]\ncycle = 100000\n")?;
+    text.push_str("slots = [[0, 1]")?;
+    for k in 1..1000u32 {
+        let start = 100 * k;
+        write!(text, ", [{start}, 1]")?;
+    }
+    text.push_str("]\n\n[[task]]\nname = \"a\"\ncost = 1\ndeadline = 512\n")?;
+    text.push_str("priority = 1\nperiod = 512\n")?;
+    Ok(text)
+}
+
+/// The promise of that table.
+fn thousand_times(alloc: Global) -> Result<String, AllocError> {
+    let mut text = String::from_str(alloc, "horizon 100000 times")?;
+    for k in 1..1001u32 {
+        let time = 100 * k;
+        write!(text, " {time}")?;
+    }
+    text.push_str("\n")?;
+    Ok(text)
+}
+
 /// Compares what the program says to the words over two files.
 fn assert_words(
     rt: &impl Abort,
@@ -135,5 +159,19 @@ fn printed_sheets_read_again(rt: HostRuntime) -> Result<(), Fail> {
     let printed = print_sheet(alloc, &sheet)?;
     let again = read_sheet(alloc, &printed)?;
     assert_eq!(rt; print_sheet(alloc, &again)?.as_slice(), printed.as_slice());
+    Ok(())
+}
+
+#[test]
+fn as_many_slots_as_there_may_be(rt: HostRuntime) -> Result<(), Fail> {
+    let alloc = rt.alloc();
+    let (sheet, promise) = (table_of_a_thousand(alloc)?, thousand_times(alloc)?);
+    assert_words(
+        &rt,
+        alloc,
+        "promise s",
+        (sheet.as_str(), ""),
+        (0, promise.as_str(), ""),
+    )?;
     Ok(())
 }

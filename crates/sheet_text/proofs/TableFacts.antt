@@ -1,9 +1,9 @@
 -- The sheet of bytes that have a time table.
 use Rattle.std.proofs.Common.{◌≡◌, ℕ, ◌||◌, Bool, true, false, List, codes, Option, Some, None, is_some, Result, Ok, Err, refl, sym, ap, subst, ◌∙◌, if◌then◌else◌}
-use Rattle.std.proofs.lemmas.Bool.{cases_Bool}
 use Rattle.toml.specs.Data.{Data, get}
 use Rattle.task_sheet.specs.declared.tasks.SupplySpec.{SupplySpec}
 use Rattle.task_sheet.specs.declared.refusal.SheetRefusal.{SheetRefusal}
+use Rattle.task_sheet.specs.declared.refusal.SheetRefusal.TheVariants.{Text}
 use Rattle.task_sheet.specs.SheetParts.{SheetParts}
 use Rattle.task_sheet.specs.Refusing.{◌>>=◌, present}
 use Rattle.supply_table.specs.declared.table.Slot.{Slot}
@@ -25,20 +25,26 @@ is_present : {A : Type 0} (o : Option A) (e : SheetRefusal) (a : A) → present 
 is_present (Some x) e a h = refl
 is_present None e a h = absurd (cc)
 
+passed : {A E : Type 0} (b : Bool) (x : Result A E) (refusal : E) (a : A) → (if b then x else Err refusal) ≡ Ok a → (b ≡ true) × (x ≡ Ok a)
+passed true x refusal a e = (refl, e)
+passed false x refusal a e = absurd (cc)
+
+taken : {A : Type 0} (b : Bool) (x y z : A) → b ≡ true → (if b then x else y) ≡ z → x ≡ z
+taken true x y z h e = e
+taken false x y z h e = absurd (cc)
+
+or_left : (a b : Bool) → a ≡ true → (a || b) ≡ true
+or_left true b h = refl
+or_left false b h = absurd (cc)
+
 -- a table that passes its rules is valid
 table_checked : (cycle : ℕ) (slots : List Slot) (t : TableParts) → table_check_of cycle slots ≡ Ok t → IsTable t
-table_checked cycle slots t e = elim (cases_Bool (is_cycle cycle)) [
-  | inr h ↦ absurd (cc)
-  | inl h ↦ elim (cases_Bool (are_slots slots)) [
-      | inr g ↦ absurd (cc)
-      | inl g ↦ elim (cases_Bool (are_in_order 0 slots cycle)) [
-          | inr f ↦ absurd (cc)
-          | inl f ↦
-              let same : record { cycle = cycle; slots = slots } ≡ t = cc in
-              subst IsTable same (record { cycle = h; slots = g; order = f })
-        ]
-    ]
-]
+table_checked cycle slots t e =
+    let first = passed (is_cycle cycle) _ _ t e in
+    let second = passed (are_slots slots) _ _ t first.1 in
+    let third = passed (are_in_order 0 slots cycle) _ _ t second.1 in
+    let same : record { cycle = cycle; slots = slots } ≡ t = cc in
+    subst IsTable same (record { cycle = first.0; slots = second.0; order = third.0 })
 
 table_unrefused : (r : Result TableParts TableRefusal) (t : TableParts) → table_or_refusal r ≡ Ok t → r ≡ Ok t
 table_unrefused (Ok x) t e = cc
@@ -57,8 +63,7 @@ unfolding cyclic_rule
 cyclic_has_key s t e =
     let cycle = both_pass _ _ _ e in
     let here = both_pass _ _ _ cycle.1.0 in
-    let stands : has_key (codes "cycle") s ≡ true = is_present _ _ _ here.1.0 in
-    rw stands refl
+    or_left (has_key (codes "cycle") s) (has_key (codes "slots") s) (is_present _ _ _ here.1.0)
 
 -- a supply with a table is the promise that the table implies
 given_table : (s : Data) (t : TableParts) (spec : SupplySpec) → cyclic_rule s ≡ Ok t → given_rule s ≡ Ok spec → spec ≡ implied_by t
@@ -67,9 +72,7 @@ given_table s t spec is e =
     let kind = both_pass _ _ _ e in
     let known = both_pass _ _ _ kind.1.1 in
     let one = both_pass _ _ _ known.1.1 in
-    let chosen : (if has_table s then tabled_rule s else promised_rule s) ≡ Ok spec = one.1.1 in
-    let has = cyclic_has_key s t is in
-    let tabled : tabled_rule s ≡ Ok spec = rw has at chosen in
+    let tabled : tabled_rule s ≡ Ok spec = taken (has_table s) (tabled_rule s) (promised_rule s) _ (cyclic_has_key s t is) one.1.1 in
     let said : tabled_rule s ≡ Ok (implied_by t) = rw is refl in
     let same : Ok {T = SupplySpec} {E = SheetRefusal} spec ≡ Ok (implied_by t) = sym tabled ∙ said in
     cc
@@ -86,13 +89,13 @@ sheet_supply d s sheet e here =
     let items = both_pass _ _ _ listed.1.1 in
     let tasks = both_pass _ _ _ items.1.1 in
     let whole : record { policy = policy.0; supply = supply.0; tasks = tasks.0 } ≡ sheet = cc in
-    let given : supplied_rule (get (codes "supply") d) ≡ Ok supply.0 = supply.1.0 in
+    let given : given_rule s ≡ Ok supply.0 = subst (λ (o : Option Data). supplied_rule o ≡ Ok supply.0) here supply.1.0 in
     let same : supply.0 ≡ sheet.supply = ap (λ (x : SheetParts). x.supply) whole in
-    rw (here, same) at given
+    given ∙ ap (λ (x : SupplySpec). Ok x) same
 
 document_is : (bytes : List ℕ) (d : Data) (sheet : SheetParts) → sheet_of_text bytes ≡ Ok sheet → document_of bytes ≡ Some d → sheet_of d ≡ Ok sheet
 unfolding sheet_of_text
-document_is bytes d sheet e is = rw is at e
+document_is bytes d sheet e is = subst (λ (o : Option Data). (present o Text >>= sheet_of) ≡ Ok sheet) is e
 
 -- the sheet of bytes with a table promises what the table implies, and the table is valid
 pub sheet_of_table : (bytes : List ℕ) (table : TableParts) (sheet : SheetParts) → HasTable bytes table → sheet_of_text bytes ≡ Ok sheet →

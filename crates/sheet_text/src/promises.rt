@@ -46,6 +46,7 @@ fn promise_of(alloc: Global, value: &Value) -> Result<SupplySpec, SheetRefusal>
     )
 }
 
+#[tactic(auto, using(crate::proofs::Fronts::is_some_seen))]
 fn has_key(value: &Value, key: &str) -> bool
     ensures { result ≡ has_key_of key.now (view value.now) }
 {

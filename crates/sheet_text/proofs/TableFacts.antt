@@ -1,10 +1,11 @@
 -- The sheet of bytes that have a time table.
-use Rattle.std.proofs.Common.{◌≡◌, ℕ, ◌||◌, Bool, true, false, List, codes, Option, Some, None, is_some, Result, Ok, Err, refl, sym, ap, subst, ◌∙◌, if◌then◌else◌}
+use Rattle.std.proofs.Common.{◌≡◌, ℕ, ◌||◌, Bool, true, false, List, codes, Option, Some, None, is_some, Result, Ok, Err, refl, ap, subst, ◌∙◌, if◌then◌else◌}
 use Rattle.toml.specs.Data.{Data, get}
 use Rattle.task_sheet.specs.declared.tasks.SupplySpec.{SupplySpec}
 use Rattle.task_sheet.specs.declared.refusal.SheetRefusal.{SheetRefusal}
 use Rattle.task_sheet.specs.declared.refusal.SheetRefusal.TheVariants.{Text}
 use Rattle.task_sheet.specs.SheetParts.{SheetParts}
+use Rattle.task_sheet.specs.Sheets.{parts_of}
 use Rattle.task_sheet.specs.Refusing.{◌>>=◌, present}
 use Rattle.supply_table.specs.declared.table.Slot.{Slot}
 use Rattle.supply_table.specs.declared.table.TableRefusal.{TableRefusal}
@@ -25,6 +26,10 @@ is_present : {A : Type 0} (o : Option A) (e : SheetRefusal) (a : A) → present 
 is_present (Some x) e a h = refl
 is_present None e a h = absurd (cc)
 
+-- a result has one value
+ok_same : {A E : Type 0} (r : Result A E) (a b : A) → r ≡ Ok a → r ≡ Ok b → a ≡ b
+ok_same r a b x y = cc
+
 passed : {A E : Type 0} (b : Bool) (x : Result A E) (refusal : E) (a : A) → (if b then x else Err refusal) ≡ Ok a → (b ≡ true) × (x ≡ Ok a)
 passed true x refusal a e = (refl, e)
 passed false x refusal a e = absurd (cc)
@@ -37,13 +42,16 @@ or_left : (a b : Bool) → a ≡ true → (a || b) ≡ true
 or_left true b h = refl
 or_left false b h = absurd (cc)
 
+abbrev table_parts : ℕ → List Slot → TableParts
+table_parts cycle slots = record { cycle = cycle; slots = slots }
+
 -- a table that passes its rules is valid
 table_checked : (cycle : ℕ) (slots : List Slot) (t : TableParts) → table_check_of cycle slots ≡ Ok t → IsTable t
 table_checked cycle slots t e =
     let first = passed (is_cycle cycle) _ _ t e in
     let second = passed (are_slots slots) _ _ t first.1 in
     let third = passed (are_in_order 0 slots cycle) _ _ t second.1 in
-    let same : record { cycle = cycle; slots = slots } ≡ t = cc in
+    let same = ok_same _ (table_parts cycle slots) t refl third.1 in
     subst IsTable same (record { cycle = first.0; slots = second.0; order = third.0 })
 
 table_unrefused : (r : Result TableParts TableRefusal) (t : TableParts) → table_or_refusal r ≡ Ok t → r ≡ Ok t
@@ -73,9 +81,9 @@ given_table s t spec is e =
     let known = both_pass _ _ _ kind.1.1 in
     let one = both_pass _ _ _ known.1.1 in
     let tabled : tabled_rule s ≡ Ok spec = taken (has_table s) (tabled_rule s) (promised_rule s) _ (cyclic_has_key s t is) one.1.1 in
-    let said : tabled_rule s ≡ Ok (implied_by t) = rw is refl in
-    let same : Ok {T = SupplySpec} {E = SheetRefusal} spec ≡ Ok (implied_by t) = sym tabled ∙ said in
-    cc
+    let said : tabled_rule s ≡ Ok (implied_by t) =
+    ap (λ (r : Result TableParts SheetRefusal). r >>= (λ (x : TableParts). Ok (implied_by x))) is in
+    ok_same (tabled_rule s) spec (implied_by t) tabled said
 
 -- a sheet's supply is what its document says there
 sheet_supply : (d s : Data) (sheet : SheetParts) → sheet_of d ≡ Ok sheet → get (codes "supply") d ≡ Some s → given_rule s ≡ Ok sheet.supply
@@ -88,7 +96,7 @@ sheet_supply d s sheet e here =
     let listed = both_pass _ _ _ supply.1.1 in
     let items = both_pass _ _ _ listed.1.1 in
     let tasks = both_pass _ _ _ items.1.1 in
-    let whole : record { policy = policy.0; supply = supply.0; tasks = tasks.0 } ≡ sheet = cc in
+    let whole = ok_same _ (parts_of policy.0 supply.0 tasks.0) sheet refl tasks.1.1 in
     let given : given_rule s ≡ Ok supply.0 = subst (λ (o : Option Data). supplied_rule o ≡ Ok supply.0) here supply.1.0 in
     let same : supply.0 ≡ sheet.supply = ap (λ (x : SheetParts). x.supply) whole in
     given ∙ ap (λ (x : SupplySpec). Ok x) same

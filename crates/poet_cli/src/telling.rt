@@ -130,7 +130,11 @@ fn write_sheet_refusal<E: Sink>(refusal: SheetRefusal, err: &mut E) -> Result<()
             write_field(err, "sheet: ", field, " out of order in ", place)
         }
         SheetRefusal::Mixed => write_at(
-            err, "sheet: both promise and table in ", "", "", Place::Supply,
+            err,
+            "sheet: both promise and table in ",
+            "",
+            "",
+            Place::Supply,
         ),
         SheetRefusal::Both { task } => { write_task(err, "sheet: both period and curve in ", task) }
         SheetRefusal::Twice { task } => write_task(err, "sheet: name repeated in ", task),

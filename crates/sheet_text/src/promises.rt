@@ -77,7 +77,11 @@ fn given_supply(alloc: Global, value: &Value) -> Result<SupplySpec, SheetRefusal
     ensures valid { IfOk result (λ s. supply_rule s ≡ Ok tt) }
 {
     check_table(value, Place::Top, Field::Supply)?;
-    check_keys(value, &["horizon", "times", "cycle", "slots"], Place::Supply)?;
+    check_keys(
+        value,
+        &["horizon", "times", "cycle", "slots"],
+        Place::Supply,
+    )?;
     check_mixture(value)?;
     if has_table(value) {
         implied_promise(alloc, value)

@@ -1,5 +1,5 @@
 -- What the headline says of a sheet whose bytes have a time table.
-use Rattle.std.proofs.Common.{◌≡◌, ℕ, Bool, true, false, List, Option, Some, None, Ok, refl, sym, subst, ap, ◌∙◌}
+use Rattle.std.proofs.Common.{◌≡◌, ℕ, Bool, true, false, List, Option, Some, None, refl, sym, subst, ap, ◌∙◌}
 use Rattle.poet_io.specs.declared.log.Event.{Event}
 use Rattle.poet_io.specs.Shelves.{Files}
 use Rattle.task_sheet.specs.declared.tasks.SupplySpec.{SupplySpec}
@@ -10,7 +10,6 @@ use Rattle.supply_table.specs.Validity.{IsTable}
 use Rattle.supply_table.proofs.LawFacts.{supplies}
 use Rattle.sheet_text.specs.TableRows.{implied_by}
 use Rattle.sheet_text.specs.SupplyRows.{HasTable}
-use Rattle.sheet_text.specs.SheetRows.{sheet_of_text}
 use Rattle.sheet_text.proofs.TableFacts.{sheet_of_table}
 use Rattle.certificate.specs.declared.cert.Cert.{Cert}
 use Rattle.policy_more.specs.Meanings.{meaning_of}

@@ -1,9 +1,7 @@
-//! Tests of sheet_text, run_text and report: texts written by hand.
+//! Tests of sheet_text and report: texts written by hand.
 #![tactic(auto)]
 
 #[cfg(test)]
 mod reports;
-#[cfg(test)]
-mod runs;
 #[cfg(test)]
 mod sheets;

@@ -1,10 +1,10 @@
 //! Worked certificates, of one task, of two under their deadlines, and of tasks with jitters, and the
 //! first condition that each fails.
-use crate::sheets::{JITTER, JITTER_BLOCKING, JITTER_POINTS, TWO_DEADLINES, sheet_of};
 use certificate::read_cert;
 use conditions::{Cond, first_failed};
 use policy::{Edf, Fifo, Fp, Policy};
 use preemption::PerTask;
+use small_sheets::{JITTER, JITTER_BLOCKING, JITTER_POINTS, TWO_DEADLINES, sheet_of};
 use std::alloc::Global;
 use std::process::Abort;
 use std::test::Fail;

@@ -2,10 +2,10 @@
 ghost use Rattle.std.specs.Prelude.{◌≡◌, ◌≤◌, ◌<◌};
 ghost use Rattle.meter.specs.Meters.{meter_at};
 
-use crate::sheets::{TWO_DEADLINES, sheet_of};
 use meter::Meter;
 use policy::{Edf, Fp, Policy};
 use preemption::{PerTask, Preemption};
+use small_sheets::{TWO_DEADLINES, sheet_of};
 use std::test::Fail;
 
 /// The shorter task waits for one tick of the longer one, which is never preempted.

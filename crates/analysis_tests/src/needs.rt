@@ -1,8 +1,8 @@
 //! Worked numbers of demand: two of eight tasks, caps below 0, and jitters.
-use crate::sheets::{EIGHT_TASKS, JITTER, JITTER_BLOCKING, JITTER_POINTS, sheet_of};
 use demand::{blocking, need, others, own, rest, window_need};
 use policy::{Edf, Fifo, Fp};
 use preemption::PerTask;
+use small_sheets::{EIGHT_TASKS, JITTER, JITTER_BLOCKING, JITTER_POINTS, sheet_of};
 use std::test::Fail;
 
 const SHORT_AND_LONG: &str = "

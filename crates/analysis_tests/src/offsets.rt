@@ -1,7 +1,7 @@
 //! Worked offsets of two tasks under their deadlines, and of tasks with jitters.
-use crate::sheets::{JITTER, JITTER_BLOCKING, JITTER_POINTS, TWO_DEADLINES, sheet_of};
 use policy::{Edf, Fifo, Fp};
 use search_space::{compared, is_point, is_same, next_point};
+use small_sheets::{JITTER, JITTER_BLOCKING, JITTER_POINTS, TWO_DEADLINES, sheet_of};
 use std::test::Fail;
 
 #[test]

@@ -47,7 +47,7 @@ module _ (p q : PolicyMeaning) (m : CutMeaning) (sbf : ℕ → ℕ) (s : SheetPa
 
     -- the entry of these points
     abbrev entry_of : ℕ → List Point → Option ℕ → Entry
-    entry_of window points bound = record { window = window; bound = or_zero bound; points = points }
+    entry_of window points bound = record { window = window; bound = or_zero bound; points = points; terms = [] }
 
     best_entry_same : (window : ℕ) → best_of_window p m sbf s i window ≡ best_of_window q m sbf (twin s k) i window
     unfolding best_of_window

@@ -1,11 +1,7 @@
-//! Tests of certificate, sheet_text, run_text and report: texts written by hand.
+//! Tests of sheet_text and report: texts written by hand.
 #![tactic(auto)]
 
 #[cfg(test)]
-mod certificates;
-#[cfg(test)]
 mod reports;
-#[cfg(test)]
-mod runs;
 #[cfg(test)]
 mod sheets;

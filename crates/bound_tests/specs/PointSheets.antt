@@ -9,6 +9,7 @@ use Rattle.task_sheet.specs.SheetParts.{SheetParts}
 use Rattle.policy.specs.PolicyMeaning.{PolicyMeaning}
 use Rattle.preemption.specs.Kinds.{per_task_meaning}
 use Rattle.demand.specs.Demand.{need_of}
+use Rattle.certificate.specs.declared.cert.Version.TheVariants.{One}
 use Rattle.certificate.specs.declared.cert.Cert.{Cert}
 use Rattle.certificate.specs.Text.{point_of}
 use Rattle.solver.specs.declared.analysis.AnalyseRefusal.{AnalyseRefusal}
@@ -21,8 +22,7 @@ pointed name cost period priority point = record {
   cost = cost;
   deadline = period;
   priority = priority;
-  jitter =
-      0;
+  jitter = 0;
   point = point;
   curve = periodic period;
   cut = Full;
@@ -34,9 +34,10 @@ gel_sheet = record { policy = Gel; supply = Whole; tasks = pointed (codes "a") 2
 
 abbrev pub gel_cert : Cert
 gel_cert = record {
+  version = One;
   entries =
-      record { window = 4; bound = 2; points = point_of 0 2 ∷ point_of 2 4 ∷ [] } ∷
-      record { window = 4; bound = 4; points = point_of 0 4 ∷ point_of 2 4 ∷ [] } ∷ [];
+      record { window = 4; bound = 2; points = point_of 0 2 ∷ point_of 2 4 ∷ []; terms = [] } ∷
+      record { window = 4; bound = 4; points = point_of 0 4 ∷ point_of 2 4 ∷ []; terms = [] } ∷ [];
 }
 
 -- a task of the greater priority, and two of one priority, of which b has the earlier point
@@ -50,10 +51,11 @@ elf_sheet = record {
 
 abbrev pub elf_cert : Cert
 elf_cert = record {
+  version = One;
   entries =
-      record { window = 1; bound = 1; points = point_of 0 1 ∷ [] } ∷
-      record { window = 6; bound = 4; points = point_of 0 3 ∷ point_of 2 6 ∷ [] } ∷
-      record { window = 6; bound = 6; points = point_of 0 6 ∷ [] } ∷ [];
+      record { window = 1; bound = 1; points = point_of 0 1 ∷ []; terms = [] } ∷
+      record { window = 6; bound = 4; points = point_of 0 3 ∷ point_of 2 6 ∷ []; terms = [] } ∷
+      record { window = 6; bound = 6; points = point_of 0 6 ∷ []; terms = [] } ∷ [];
 }
 
 -- the demand of a job of task i at offset a, within x ticks

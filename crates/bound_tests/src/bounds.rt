@@ -2,7 +2,7 @@
 ghost use Rattle.policy.specs.Policies.{fp_meaning, fifo_meaning};
 ghost use Rattle.preemption.specs.Kinds.{per_task_meaning};
 ghost use Rattle.schedule_laws.specs.Bounded.{IsBounded};
-ghost use Rattle.analysis_tests.specs.JitterSheets.{late_sheet, blocking_sheet};
+ghost use Rattle.bound_tests.specs.JitterSheets.{late_sheet, blocking_sheet};
 
 use abstract_rta::points_bound;
 use conditions::failed_means;

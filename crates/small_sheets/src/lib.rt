@@ -1,8 +1,9 @@
-//! Sheets that several tests share.
+//! Small sheets as texts, which the tests of several crates are over.
+#![tactic(auto)]
+
 use sheet_text::read_sheet;
 use std::alloc::Global;
-use std::test::Fail;
-use task_sheet::Sheet;
+use task_sheet::{Sheet, SheetRefusal};
 
 /// Two tasks of cost 2 under their deadlines.
 pub const TWO_DEADLINES: &str = "
@@ -62,6 +63,9 @@ task = [
 ]";
 
 /// The sheet of this text.
-pub fn sheet_of(alloc: Global, text: &str) -> Result<Sheet, Fail> {
-    Ok(read_sheet(alloc, text.as_bytes())?)
+///
+/// # Errors
+/// As `read_sheet`.
+pub fn sheet_of(alloc: Global, text: &str) -> Result<Sheet, SheetRefusal> {
+    read_sheet(alloc, text.as_bytes())
 }

@@ -8,7 +8,7 @@ use Rattle.demand.specs.Demand.{own_of, others_of, blocking_of, need_of, window_
 use Rattle.search_space.specs.Points.{is_point}
 use Rattle.solver.specs.Points.{points_below}
 use Rattle.solver.specs.Outcome.{least_to, best_points, best_of_window, first_entries, best_of}
-use Rattle.analysis_tests.specs.PointSheets.{gel_sheet, gel_cert, elf_sheet, elf_cert, need_at, best_at}
+use Rattle.bound_tests.specs.PointSheets.{gel_sheet, gel_cert, elf_sheet, elf_cert, need_at, best_at}
 
 pub gel_needs : (need_at gel_meaning gel_sheet 0 0 2 ∷ need_at gel_meaning gel_sheet 0 2 4 ∷ need_at gel_meaning gel_sheet 1 0 4 ∷
     need_at gel_meaning gel_sheet 1 2 4 ∷ []) ≡ (2 ∷ 4 ∷ 4 ∷ 4 ∷ [])

@@ -1,14 +1,14 @@
 //! Worked sheets with their best certificates, and the refusals.
 ghost use Rattle.std.specs.Prelude.{◌≤◌, ◌<◌, length};
 
-use crate::sheets::{
-    EIGHT_TASKS, JITTER, JITTER_BLOCKING, JITTER_POINTS, POINTS_AS_DEADLINES,
-    POINTS_WITHIN_A_PRIORITY, TWO_DEADLINES, sheet_of,
-};
 use certificate::{Cert, read_cert};
 use policy::Fp;
 use policy_more::by_policy;
 use preemption::PerTask;
+use small_sheets::{
+    EIGHT_TASKS, JITTER, JITTER_BLOCKING, JITTER_POINTS, POINTS_AS_DEADLINES,
+    POINTS_WITHIN_A_PRIORITY, TWO_DEADLINES, sheet_of,
+};
 use solver::{AnalyseRefusal, Part, analyse, least_bound, least_end, least_window};
 use std::alloc::Global;
 use std::test::Fail;

@@ -22,7 +22,7 @@ use Rattle.conditions.specs.declared.failed.Cond.TheVariants.{K2}
 use Rattle.conditions.specs.Conditions.{entry_at, of_task, task_failed_of, failed_of}
 use Rattle.conditions.specs.Meets.{pairs_of, FailedMeans}
 use Rattle.abstract_rta.specs.Bounds.{PointsBound}
-use Rattle.analysis_tests.specs.JitterSheets.{late_task, late_sheet, one_point, two_points, task_u, task_v, blocking_sheet, blocking_cert}
+use Rattle.bound_tests.specs.JitterSheets.{late_task, late_sheet, one_point, two_points, task_u, task_v, blocking_sheet, blocking_cert}
 
 -- every tick is supplied
 abbrev all_supplied : ℕ → ℕ

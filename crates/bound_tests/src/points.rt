@@ -2,7 +2,7 @@
 ghost use Rattle.std.specs.Prelude.{◌≡◌, [], ◌∷◌, Ok};
 ghost use Rattle.policy.specs.Policies.{edf_meaning};
 ghost use Rattle.policy_more.specs.PointPolicies.{gel_meaning, elf_meaning};
-ghost use Rattle.analysis_tests.specs.PointSheets.{gel_sheet, gel_cert, elf_sheet, elf_cert, need_at, best_at};
+ghost use Rattle.bound_tests.specs.PointSheets.{gel_sheet, gel_cert, elf_sheet, elf_cert, need_at, best_at};
 
 /// Points that are the deadlines give what the deadlines give.
 #[tactic(auto, using(crate::proofs::PointBounds::gel_needs, crate::proofs::PointBounds::gel_best, crate::proofs::PointBounds::edf_best))]

@@ -17,4 +17,6 @@ mod grammar;
 #[cfg(test)]
 mod jitters;
 #[cfg(test)]
+mod points;
+#[cfg(test)]
 mod whole;

@@ -4,8 +4,8 @@ use Rattle.solver.specs.Ends.{HasNoEndBefore}
 use Rattle.solver.proofs.Listing.{SoFar}
 use Rattle.solver.proofs.entries.best_entry.Given as goal
 
-abbrev pub invariant-loop-points : goal.invariant-loop-points
-invariant-loop-points g l =
+abbrev pub invariant-loop-alloc : goal.invariant-loop-alloc
+invariant-loop-alloc g l =
     let p = g.P.Policy.meaning in
     let m = g.M.Preemption.cuts in
     let sbf = g.S.Supply.sbf l.supply in
@@ -15,5 +15,5 @@ invariant-loop-points g l =
       so_far : SoFar p m sbf l.sheet l.i l.window l.a l.bound l.points.items;
     }
 
-abbrev pub decreases-loop-points : goal.decreases-loop-points
-decreases-loop-points g l = l.window - l.a
+abbrev pub decreases-loop-alloc : goal.decreases-loop-alloc
+decreases-loop-alloc g l = l.window - l.a

@@ -51,7 +51,6 @@ fn push_steps(out: &mut Vec<u8>, steps: &[Step]) -> Result<(), AllocError>
 }
 
 /// The line of a curve, as a sheet has it.
-#[tactic(auto, unfolding(crate::specs::CurveAnswers::curve_line))]
 fn line_of(alloc: Global, curve: &Prefix) -> Result<Items<u8>, AllocError>
     ensures { IfOk result (λ text. text ≡ curve_line curve.now) }
 {

@@ -2,9 +2,10 @@
 use Rattle.std.proofs.Common.{◌≢◌, ◌≡◌, ℕ, suc, zero, ◌+◌, ◌-◌, ◌<◌, ◌≤◌, ◌==◌, Bool, true, false, ◌&&◌, cond, List, [], ◌∷◌, ◌++◌, length, get_or}
 use Rattle.std.proofs.Common.{take, drop, refl, sym, ap, subst, ◌∙◌, ◌⊎◌, inl, inr, ◌↔◌, slice_index_or, if◌then◌else◌, arith, append_assoc}
 use Rattle.std.proofs.lemmas.List.{append-nil, take_more, take_all, take-append-drop, take-take, drop-take}
-use Rattle.std.proofs.lemmas.List.Sums.{sum_by-cons, sum_by-append, sum_by-take-le}
+use Rattle.std.proofs.lemmas.List.Sums.{sum_by-append, sum_by-take-le}
 use Rattle.std.proofs.lemmas.Bool.{cases_Bool, eq-eqb, ne_eqb}
 use Rattle.poet_io.specs.Texts.{Parses, BeginsText, newlines}
+use Rattle.poet_io.proofs.ByteFacts.{newlines_next}
 use Rattle.certificate.specs.Text.{cert_format}
 use Rattle.certificate.specs.Steps.{steps_of}
 use Rattle.certificate.specs.Progress.{Progress}
@@ -187,9 +188,6 @@ says_line l b more bytes n c first h parses = elim (line_parts bytes n first) [
 ]
 
 -- the line that a refusal names counts the newlines, as long as some certificate's text begins so
-newline_cons : (x : ℕ) (b : List ℕ) → newlines (x ∷ b) ≡ cond (x == 10) 1 0 + newlines b
-newline_cons x b = sum_by-cons (λ (y : ℕ). cond (y == 10) 1 0) x b
-
 line_up : (x line : ℕ) (good : Bool) → good ≡ true → cond (x == 10 && good) (line + 1) line ≡ line + cond (x == 10) 1 0
 line_up x line good e = elim (cases_Bool (x == 10)) [
   | inl is_ten ↦ rw (e, is_ten) refl
@@ -202,7 +200,7 @@ line_count l (x ∷ b) good =
     let q = (next_place l.place x).0 in
     let here : q.expected ≡ Nothing → ⊥ = λ e. good (ap (λ (p : Place). p.expected) (place_of [] (after_byte l x) b) ∙ nothing_stays [] q b e) in
     let up : (after_byte l x).line ≡ l.line + cond (x == 10) 1 0 = line_up x l.line (is_good_at q.expected) (good_test q.expected here) in
-    omega (arith, line_count (after_byte l x) b good, up, newline_cons x b)
+    omega (arith, line_count (after_byte l x) b good, up, newlines_next x b)
 
 -- where there is a byte, one is taken
 pub line_some : (bytes : List ℕ) (n : ℕ) → IsFirstLine bytes n → 0 < length bytes → 0 < n

@@ -3,5 +3,4 @@ pub mod MostFacts
 pub mod StepFacts
 pub mod InferFacts
 pub mod LineFacts
-pub mod ReadOnFacts
 pub mod ReadingFacts

@@ -9,14 +9,15 @@ use Rattle.std.proofs.lemmas.List.{take-append-drop}
 use Rattle.std.proofs.Math.Seq.{take-append_seam, drop-append_seam}
 use Rattle.poet_io.specs.Decimals.{number_in}
 use Rattle.poet_io.proofs.RangeFacts.{number_in-decimal, number_in-Some}
-use Rattle.run_text.proofs.WordFacts.{Lacks, lacks_append, decimal_lacks, text_is, is_text-self}
-use Rattle.run_text.proofs.LineFacts.{lacks_from_test}
-use Rattle.run_text.proofs.SearchFacts.{some_below, begins_or_not}
+use Rattle.lists.proofs.SearchFacts.{some_below}
+use Rattle.poet_io.specs.Lines.{is_text}
+use Rattle.poet_io.proofs.ByteFacts.{Lacks, lacks_append, decimal_lacks, lacks_from_test, HasFront, has_front_or_not, text_is, is_text_self}
+use Rattle.poet_io.proofs.LineFacts.{NextLine, next_text}
 use Rattle.curve_infer.specs.declared.stage.Stage.{Stage}
 use Rattle.curve_infer.specs.declared.stage.Stage.TheVariants.{Head, Count, Times, Over}
 use Rattle.curve_infer.specs.Traces.{IsTrace, are_times}
 use Rattle.curve_infer.specs.Text.{number_line, arrival_line, count_line}
-use Rattle.curve_infer.specs.Parsing.{Part, part, is_text, number_after, after_line}
+use Rattle.curve_infer.specs.Parsing.{Part, part, number_after, after_line, trace_rules}
 use Rattle.curve_infer.proofs.CountFacts.{next_of}
 
 number_ends : (front : List ℕ) (n : ℕ) (rest : List ℕ) → number_line front n ++ rest ≡ (front ++ decimal n) ++ 10 ∷ rest
@@ -32,7 +33,7 @@ number_lacks front n h b = lacks_append 10 front (decimal n) h (decimal_lacks 10
 number_read : (front : List ℕ) (low high n : ℕ) → n < 2 ^ 64 → low ≤ n → n ≤ high → number_after front low high (front ++ decimal n) ≡ Some n
 number_read front low high n b above below =
     let same : is_text (take (length front) (front ++ decimal n)) front ≡ true =
-    ap (λ (l : List ℕ). is_text l front) (take-append_seam front (decimal n)) ∙ is_text-self front in
+    ap (λ (l : List ℕ). is_text l front) (take-append_seam front (decimal n)) ∙ is_text_self front in
     let word : number_in low high (drop (length front) (front ++ decimal n)) ≡ Some n =
     ap (λ (l : List ℕ). number_in low high l) (drop-append_seam front (decimal n)) ∙ number_in-decimal low high n b above below in
     rw (same, word) refl
@@ -56,15 +57,6 @@ number_back front low high line n = elim (cases_Bool (is_text (take (length fron
       })
 ]
 
-abbrev pub HasFront : List ℕ → List ℕ → Type 0
-HasFront line w = (u : List ℕ) × (line ≡ w ++ u)
-
-has_front_or_not : (line w : List ℕ) → HasFront line w ⊎ (HasFront line w → ⊥)
-has_front_or_not line w = elim (begins_or_not w line) [
-  | inl b ↦ inl b
-  | inr out ↦ inr (λ b. out b.0 b.1)
-]
-
 -- a number of the range whose line begins so
 abbrev SomeNumber : List ℕ → ℕ → ℕ → List ℕ → Type 0
 SomeNumber front low high w = (n : ℕ) × (n < suc high) × ((low ≤ n) × HasFront (front ++ decimal n) w)
@@ -85,34 +77,13 @@ some_number front low high w = elim (some_below (λ n. (low ≤ n) × HasFront (
   | inr none ↦ inr (λ s. none s.0 s.1 s.2)
 ]
 
--- some line that may come begins so
-pub record NextLine (p : Part) (w : List ℕ) : Type 0 where
-  pub more : List ℕ
-  pub next : Part
-  pub goes : after_line p (w ++ more) ≡ Some next
-
--- the next line is this one
-next_text : (p q : Part) (text w : List ℕ) → ((line : List ℕ) → after_line p line ≡ cond (is_text line text) (Some q) None) → NextLine p w ⊎ (NextLine p w → ⊥)
-next_text p q text w after = elim (has_front_or_not text w) [
-  | inl b ↦ inl (record {
-    more = b.0;
-    next = q;
-    goes = after (w ++ b.0) ∙ ap (λ (l : List ℕ). cond (is_text l text) (Some q) None)
-        (sym b.1) ∙ rw (is_text-self text) refl;
-  })
-  | inr out ↦ inr (λ n. elim (cases_Bool (is_text (w ++ n.more) text)) [
-    | inl h ↦ out (n.more, sym (text_is (w ++ n.more) text h))
-    | inr h ↦ absurd (let none : after_line p (w ++ n.more) ≡ None = after (w ++ n.more) ∙ rw h refl in let some = n.goes in cc)
-  ])
-]
-
 none_maps : (f : ℕ → Part) (o : Option ℕ) (q : Part) → option_map f o ≡ Some q → (n : ℕ) × (o ≡ Some n) × (f n ≡ q)
 none_maps f None q e = absurd (cc)
 none_maps f (Some n) q e = (n, refl, (let same : f n ≡ q = cc in same))
 
 -- the next line has a number
 next_number : (p : Part) (f : ℕ → Part) (front : List ℕ) (low high : ℕ) (w : List ℕ) → high < 2 ^ 64 →
-    ((line : List ℕ) → after_line p line ≡ option_map f (number_after front low high line)) → NextLine p w ⊎ (NextLine p w → ⊥)
+    ((line : List ℕ) → after_line p line ≡ option_map f (number_after front low high line)) → NextLine trace_rules p w ⊎ (NextLine trace_rules p w → ⊥)
 next_number p f front low high w small after = elim (some_number front low high w) [
   | inl s ↦
       let b = s.1 in
@@ -144,10 +115,10 @@ times_goes left last times line some = rw (ne_eqb left 0 some) refl
 end_goes : (last : ℕ) (times line : List ℕ) → after_line (part (Times 0 last) times) line ≡ cond (is_text line (codes "end")) (Some (part Over times)) None
 end_goes last times line = refl
 
-pub next_line_or_not : (s : Stage) (times w : List ℕ) → NextLine (part s times) w ⊎ (NextLine (part s times) w → ⊥)
-next_line_or_not Head times w = next_text (part Head times) (part Count times) (codes "poet-trace 1") w (λ line. refl)
+pub next_line_or_not : (s : Stage) (times w : List ℕ) → NextLine trace_rules (part s times) w ⊎ (NextLine trace_rules (part s times) w → ⊥)
+next_line_or_not Head times w = next_text trace_rules (part Head times) (part Count times) (codes "poet-trace 1") w (λ line. refl)
 next_line_or_not Count times w = next_number (part Count times) (λ n. part (Times n 0) times) (codes "arrivals ") 1 10000 w (omega arith) (λ line. refl)
-next_line_or_not (Times zero last) times w = next_text (part (Times 0 last) times) (part Over times) (codes "end") w (end_goes last times)
+next_line_or_not (Times zero last) times w = next_text trace_rules (part (Times 0 last) times) (part Over times) (codes "end") w (end_goes last times)
 next_line_or_not (Times (suc left) last) times w =
     next_number (part (Times (suc left) last) times) (λ t. part (Times (suc left - 1) t) (times ++ t ∷ []))
     (codes "a ") last 1000000000 w (omega arith) (λ line. times_goes (suc left) last times line (λ e. omega arith))

@@ -1,11 +1,10 @@
 -- The reading of any bytes, line by line.
-use Rattle.std.specs.Prelude.{ℕ, ◌+◌, ◌-◌, ◌==◌, Bool, true, false, if◌then◌else◌, List, [], ◌∷◌, ◌++◌, length, take, drop, codes, Option, Some, None}
-use Rattle.std.specs.Prelude.{Result, Ok, Err}
-use Rattle.std.specs.Option.{option_map, option_map_or}
-use Rattle.std.specs.Cmp.Lexicographic.{pointwise}
+use Rattle.std.specs.Prelude.{ℕ, ◌-◌, ◌==◌, Bool, true, false, if◌then◌else◌, List, [], ◌∷◌, ◌++◌, length, take, drop, codes, Option, Some, None}
+use Rattle.std.specs.Prelude.{Result}
+use Rattle.std.specs.Option.{option_map}
 use Rattle.poet_io.specs.Decimals.{number_in}
 use Rattle.poet_io.specs.declared.text_refusal.TextRefusal.{TextRefusal}
-use Rattle.poet_io.specs.declared.text_refusal.TextRefusal.TheVariants.{Line}
+use Rattle.poet_io.specs.Lines.{is_text, LineRules, lines_read, value_read}
 use Rattle.curve_infer.specs.declared.stage.Stage.{Stage}
 use Rattle.curve_infer.specs.declared.stage.Stage.TheVariants.{Head, Count, Times, Over}
 use Rattle.curve_infer.specs.declared.draft.Draft.{Draft}
@@ -22,10 +21,6 @@ part stage times = record { stage = stage; times = times }
 -- before the first line
 abbrev pub nothing_read : Part
 nothing_read = part Head []
-
--- the bytes are these
-abbrev pub is_text : List ℕ → List ℕ → Bool
-is_text bytes text = pointwise ◌==◌ bytes text
 
 -- the number of a line that begins with this word, in its range
 abbrev pub number_after : List ℕ → ℕ → ℕ → List ℕ → Option ℕ
@@ -52,18 +47,15 @@ part_of draft = part draft.stage draft.times.items
 abbrev pub part_if : Bool → Draft → Option Part
 part_if fits draft = if fits then Some (part_of draft) else None
 
--- the last line was read, and no byte follows it
-abbrev pub is_whole : Stage → List ℕ → Bool
-is_whole Over [] = true
-is_whole _ _ = false
+-- the last line was read
+abbrev pub is_over : Stage → Bool
+is_over Over = true
+is_over _ = false
 
--- reading on: what the lines before say, the number of the next line, its bytes so far, and the bytes behind them
-abbrev pub read_on : Part → ℕ → List ℕ → List ℕ → Result (List ℕ) TextRefusal
-read_on p n line [] = if is_whole p.stage line then Ok p.times else Err (Line n)
-read_on p n line (x ∷ bytes) =
-    if x == 10 then option_map_or (λ q. read_on q (n + 1) [] bytes) (after_line p line) (Err (Line n))
-    else read_on p n (line ++ x ∷ []) bytes
+-- the rules of the lines of a trace
+abbrev pub trace_rules : LineRules Part
+trace_rules = record { after = after_line; is_over = λ p. is_over p.stage }
 
 -- what reading the bytes gives
 unfoldable pub trace_of_text : List ℕ → Result (List ℕ) TextRefusal
-trace_of_text bytes = read_on nothing_read 1 [] bytes
+trace_of_text bytes = value_read (λ p. p.times) (lines_read trace_rules nothing_read bytes)

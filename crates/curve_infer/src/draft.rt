@@ -1,12 +1,13 @@
 //! A trace, as far as the lines of its text were read.
-ghost use Rattle.std.specs.Prelude.{◌≡◌, ◌≤◌, ◌↔◌, IfOk, IfSome, IsTrue};
+ghost use Rattle.std.specs.Prelude.{◌≡◌, ◌≤◌, IfOk, IfSome};
 ghost use Rattle.std.specs.Bool.{OnTrue};
-ghost use Rattle.curve_infer.specs.Parsing.{part, nothing_read, number_after, is_text, after_at, after_line, part_of, part_if};
+ghost use Rattle.poet_io.specs.Lines.{is_text};
+ghost use Rattle.curve_infer.specs.Parsing.{part, nothing_read, number_after, after_at, after_line, part_of, part_if};
 ghost use Rattle.curve_infer.specs.declared.stage.Stage.TheVariants as stage;
 
 use crate::stage::Stage;
 use crate::trace::{LATEST, MOST_ARRIVALS};
-use poet_io::read_number_in;
+use poet_io::{LineDraft, read_number_in};
 use std::alloc::{AllocError, Global};
 
 /// The number of a line that begins with `front`, from `low` to `high`.
@@ -75,11 +76,25 @@ impl Draft {
         Ok(true)
     }
 
-    /// Takes the next line, and says whether it may come.
-    pub(crate) fn take(&mut self, line: &[u8]) -> Result<bool, AllocError>
-        ensures { IfOk result (λ fits. after_line (part_of self.old) line.now ≡
-            part_if fits self.new) }
+    pub(crate) fn into_times(self) -> Vec<u64>
+        ensures { result.items ≡ self.times.items }
     {
+        self.times
+    }
+}
+
+impl LineDraft for Draft {
+    ghost use Rattle.curve_infer.specs.Parsing.{Part, part, trace_rules};
+
+    ghost Said = { Part };
+
+    ghost said = { λ draft. part draft.stage draft.times.items };
+
+    ghost rules = { trace_rules };
+
+    ghost is_good = { λ said. Unit {0} };
+
+    fn take(&mut self, _alloc: Global, line: &[u8]) -> Result<bool, AllocError> {
         match self.stage {
             Stage::Head => Ok(self.take_text(line, b"poet-trace 1", Stage::Count)),
             Stage::Count => Ok(self.take_count(line)),
@@ -94,15 +109,7 @@ impl Draft {
         }
     }
 
-    pub(crate) fn is_over(&self) -> bool
-        ensures { IsTrue result ↔ (self.now.stage ≡ stage.Over) }
-    {
+    fn is_over(&self) -> bool {
         matches!(&self.stage, Stage::Over)
-    }
-
-    pub(crate) fn into_times(self) -> Vec<u64>
-        ensures { result.items ≡ self.times.items }
-    {
-        self.times
     }
 }

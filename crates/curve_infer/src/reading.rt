@@ -6,7 +6,7 @@ ghost use Rattle.curve_infer.specs.Parsing.{trace_of_text};
 
 use crate::draft::Draft;
 use crate::trace::Trace;
-use poet_io::TextRefusal;
+use poet_io::{TextRefusal, take_lines};
 use std::alloc::Global;
 
 /// The trace whose text the bytes are.
@@ -20,19 +20,6 @@ pub fn read_trace(alloc: Global, bytes: &[u8]) -> Result<Trace, TextRefusal>
     ensures gives { AnswersReading result (trace_of_text bytes.now) }
 {
     let mut draft = Draft::new(alloc);
-    let mut start = 0usize;
-    let mut line = 1u64;
-    for (at, byte) in bytes.iter().enumerate() {
-        if *byte == b'\n' {
-            if !draft.take(&bytes[start..at])? {
-                return Err(TextRefusal::Line(line));
-            }
-            start = at + 1;
-            line += 1;
-        }
-    }
-    if draft.is_over() && start == bytes.len() {
-        return Ok(Trace::new(draft.into_times()));
-    }
-    Err(TextRefusal::Line(line))
+    take_lines(alloc, &mut draft, bytes)?;
+    Ok(Trace::new(draft.into_times()))
 }

@@ -17,6 +17,13 @@ find_below P Q d (suc n) = elim (find_below P Q d n) [
   ]
 ]
 
+-- a decided fact holds of a number below n, or of none
+pub some_below : (P : ℕ → Type 0) → ((k : ℕ) → P k ⊎ (P k → ⊥)) → (n : ℕ) → ((k : ℕ) × (k < n) × P k) ⊎ ((k : ℕ) → k < n → P k → ⊥)
+some_below P decide n = elim (find_below (λ k. P k → ⊥) P (λ k. elim (decide k) [ inl p ↦ inr p | inr out ↦ inl out ]) n) [
+  | inl none ↦ inr none
+  | inr some ↦ inl some
+]
+
 -- the last number up to n at which a decided fact holds, where it holds at 0
 pub last_up_to : (P Q : ℕ → Type 0) → ((k : ℕ) → P k ⊎ Q k) → P 0 → (n : ℕ) → (s : ℕ) × (s ≤ n) × P s × ((u : ℕ) → s < u → u ≤ n → Q u)
 last_up_to P Q d z zero = (0, omega arith, z, (λ u l h. absurd (omega arith)))

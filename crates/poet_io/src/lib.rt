@@ -5,6 +5,7 @@
 mod calls;
 mod eater;
 mod file_shelf;
+mod lines;
 mod log;
 mod mem_shelf;
 mod mem_sink;
@@ -16,6 +17,7 @@ mod text_refusal;
 
 pub use eater::{Eater, PourRefusal, pour};
 pub use file_shelf::FileShelf;
+pub use lines::{LineDraft, take_lines};
 pub use log::{Call, Event, Log, Taken};
 pub use mem_shelf::MemShelf;
 pub use mem_sink::MemSink;

@@ -13,44 +13,18 @@ use Rattle.run_text.specs.declared.version.Version.TheVariants.{First, Second}
 use Rattle.run_text.specs.declared.stage.Stage.{Stage}
 use Rattle.run_text.specs.declared.stage.Stage.TheVariants.{Head, Counts, Jobs, Ticks, Over}
 use Rattle.run_text.specs.Text.{Stretch, stretch, head_of, IsSegment, IsTickOf, Tells}
-use Rattle.run_text.specs.Words.{is_text, words_of}
+use Rattle.run_text.specs.Words.{words_of}
 use Rattle.run_text.specs.Lines.{version_of, make_job, counts_of, job_of, stretch_of}
 use Rattle.run_text.specs.Parts.{Part, part, before_jobs, is_repeated, with_stretch, after_at, after_line, IsSmall}
-use Rattle.run_text.proofs.WordFacts.{text_is, is_text-self, words_of-same}
+use Rattle.lists.proofs.SearchFacts.{some_below}
+use Rattle.poet_io.proofs.ByteFacts.{HasFront, has_front_or_not}
+use Rattle.poet_io.proofs.LineFacts.{NextLine, next_text}
+use Rattle.run_text.specs.Parsing.{run_rules}
+use Rattle.run_text.proofs.WordFacts.{words_of-same}
 use Rattle.run_text.proofs.LineFacts.{all_by_recursion, all_again, version_of-head, version_back, IsJobIn, counts_front, counts_front-words}
 use Rattle.run_text.proofs.LineFacts.{counts_of-front, counts_back, stretch_front, stretch_front-words, stretch_of-front, stretch_back, job_front}
 use Rattle.run_text.proofs.LineFacts.{job_front-words, job_of-front, job_back}
-use Rattle.run_text.proofs.SearchFacts.{some_below, IsSmallList, some_list, begins_or_not}
-
--- some line that may come begins so
-pub record NextLine (p : Part) (w : List ℕ) : Type 0 where
-  pub more : List ℕ
-  pub next : Part
-  pub goes : after_line p (w ++ more) ≡ Some next
-
-abbrev pub HasFront : List ℕ → List ℕ → Type 0
-HasFront line w = (u : List ℕ) × (line ≡ w ++ u)
-
-has_front_or_not : (line w : List ℕ) → HasFront line w ⊎ (HasFront line w → ⊥)
-has_front_or_not line w = elim (begins_or_not w line) [
-  | inl b ↦ inl b
-  | inr out ↦ inr (λ b. out b.0 b.1)
-]
-
--- the next line is this one
-next_text : (p q : Part) (text w : List ℕ) → ((line : List ℕ) → after_line p line ≡ cond (is_text line text) (Some q) None) → NextLine p w ⊎ (NextLine p w → ⊥)
-next_text p q text w after = elim (has_front_or_not text w) [
-  | inl b ↦ inl (record {
-    more = b.0;
-    next = q;
-    goes = after (w ++ b.0) ∙ ap (λ (l : List ℕ). cond (is_text l text) (Some q) None)
-        (sym b.1) ∙ rw (is_text-self text) refl;
-  })
-  | inr out ↦ inr (λ n. elim (cases_Bool (is_text (w ++ n.more) text)) [
-    | inl h ↦ out (n.more, sym (text_is (w ++ n.more) text h))
-    | inr h ↦ absurd (let none : after_line p (w ++ n.more) ≡ None = after (w ++ n.more) ∙ rw h refl in let some = n.goes in cc)
-  ])
-]
+use Rattle.run_text.proofs.SearchFacts.{IsSmallList, some_list}
 
 -- the first line of a version begins so
 record SomeVersion (w : List ℕ) : Type 0 where
@@ -75,7 +49,7 @@ head_line_from : (js : List Job) (xs : List Tick) (w more : List ℕ) (q : Part)
 head_line_from js xs w more q None is e = absurd (cc)
 head_line_from js xs w more q (Some v) is e = record { version = v; front = (more, sym (version_back (w ++ more) v is)) }
 
-next_head : (js : List Job) (xs : List Tick) (w : List ℕ) → NextLine (part Head js xs) w ⊎ (NextLine (part Head js xs) w → ⊥)
+next_head : (js : List Job) (xs : List Tick) (w : List ℕ) → NextLine run_rules (part Head js xs) w ⊎ (NextLine run_rules (part Head js xs) w → ⊥)
 next_head js xs w = elim (some_version w) [
   | inl s ↦ inl (record {
     more = s.front.0;
@@ -113,7 +87,7 @@ counts_line_from v js xs w more q (Some (j, t)) is e =
     words_of-same (w ++ more) (counts_front j t) (read.0 ∙ sym (counts_front-words j t (omega (arith, read.1)) (omega (arith, read.2)))) in
     record { jobs = j; ticks = t; few_jobs = read.1; few_ticks = read.2; front = (more, sym front) }
 
-next_counts : (v : Version) (js : List Job) (xs : List Tick) (w : List ℕ) → NextLine (part (Counts v) js xs) w ⊎ (NextLine (part (Counts v) js xs) w → ⊥)
+next_counts : (v : Version) (js : List Job) (xs : List Tick) (w : List ℕ) → NextLine run_rules (part (Counts v) js xs) w ⊎ (NextLine run_rules (part (Counts v) js xs) w → ⊥)
 next_counts v js xs w = elim (some_counts w) [
   | inl s ↦ inl (record {
     more = s.front.0;
@@ -241,7 +215,7 @@ job_line_from v js xs after room t w more q (Some j) is e =
     record { job = j; is = read.job; few = read.few; front = (more, sym front) }
 
 next_job : (v : Version) (js : List Job) (xs : List Tick) (after room t : ℕ) (w : List ℕ) →
-    NextLine (part (Jobs v after room t) js xs) w ⊎ (NextLine (part (Jobs v after room t) js xs) w → ⊥)
+    NextLine run_rules (part (Jobs v after room t) js xs) w ⊎ (NextLine run_rules (part (Jobs v after room t) js xs) w → ⊥)
 next_job v js xs after room t w = elim (some_job v room w) [
   | inl s ↦ inl (record {
     more = s.front.0;
@@ -311,7 +285,7 @@ stretch_line_from js xs before left w more q (Some s) small few is = elim (cases
 ]
 
 next_stretch : (js : List Job) (xs : List Tick) (before : Option Tick) (left : ℕ) (w : List ℕ) → length js ≤ 20000 →
-    left ≤ 100000 → (left == 0) ≡ false → NextLine (part (Ticks before left) js xs) w ⊎ (NextLine (part (Ticks before left) js xs) w → ⊥)
+    left ≤ 100000 → (left == 0) ≡ false → NextLine run_rules (part (Ticks before left) js xs) w ⊎ (NextLine run_rules (part (Ticks before left) js xs) w → ⊥)
 next_stretch js xs before left w small few some =
     let after : (line : List ℕ) → after_at (Ticks before left) js xs line ≡ option_and_then (with_stretch before left js xs)
     (stretch_of (length js) left line) = λ line. rw some refl in
@@ -332,15 +306,15 @@ next_stretch js xs before left w small few some =
     ]
 
 next_ticks : (js : List Job) (xs : List Tick) (before : Option Tick) (left : ℕ) (w : List ℕ) → length js ≤ 20000 → left ≤ 100000 →
-    NextLine (part (Ticks before left) js xs) w ⊎ (NextLine (part (Ticks before left) js xs) w → ⊥)
+    NextLine run_rules (part (Ticks before left) js xs) w ⊎ (NextLine run_rules (part (Ticks before left) js xs) w → ⊥)
 next_ticks js xs before left w small few = elim (cases_Bool (left == 0)) [
-  | inl none ↦ next_text (part (Ticks before left) js xs) (part Over js xs) (codes "end") w (λ line. rw none refl)
+  | inl none ↦ next_text run_rules (part (Ticks before left) js xs) (part Over js xs) (codes "end") w (λ line. rw none refl)
   | inr some ↦ next_stretch js xs before left w small few some
 ]
 
 -- whether a line that may come begins so
 pub next_line_or_not : (stage : Stage) (js : List Job) (xs : List Tick) (w : List ℕ) → IsSmall (part stage js xs) →
-    NextLine (part stage js xs) w ⊎ (NextLine (part stage js xs) w → ⊥)
+    NextLine run_rules (part stage js xs) w ⊎ (NextLine run_rules (part stage js xs) w → ⊥)
 next_line_or_not Head js xs w small = next_head js xs w
 next_line_or_not (Counts v) js xs w small = next_counts v js xs w
 next_line_or_not (Jobs v after room t) js xs w small = next_job v js xs after room t w

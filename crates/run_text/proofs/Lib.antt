@@ -4,6 +4,4 @@ pub mod LineFacts
 pub mod RestFacts
 pub mod SearchFacts
 pub mod BeginFacts
-pub mod FrontFacts
-pub mod ReadOnFacts
 pub mod ReadingFacts

@@ -17,10 +17,12 @@ use Rattle.run_text.specs.declared.version.Version.{Version}
 use Rattle.run_text.specs.declared.version.Version.TheVariants.{First, Second}
 use Rattle.run_text.specs.Text.{Stretch, stretch, tick_words, stretch_line, segment_text, head_of, release_text, job_line, counts_line}
 use Rattle.run_text.specs.Text.{greatest_release, IsSegment, IsJob, IsTickOf, Tells}
-use Rattle.run_text.specs.Words.{words_of, is_text}
+use Rattle.poet_io.specs.Lines.{is_text}
+use Rattle.run_text.specs.Words.{words_of}
 use Rattle.run_text.specs.Lines.{version_of, both, counts_from, counts_of, job_number, release_number, segments_from, make_job, job_with}
 use Rattle.run_text.specs.Lines.{from_release, job_behind, job_from, job_of, stretch_with, named_job, stretch_from, stretch_of}
-use Rattle.run_text.proofs.WordFacts.{Lacks, lacks_append, decimal_lacks, words_last, words_more, words_of-numbers, text_is}
+use Rattle.poet_io.proofs.ByteFacts.{Lacks, lacks_append, decimal_lacks, lacks_from_test, text_is}
+use Rattle.run_text.proofs.WordFacts.{words_last, words_more, words_of-numbers}
 
 pub all_by_recursion : {X : Type 0} (P : X → Type 0) (xs : List X) → All P xs → AllByRecursion P xs
 all_by_recursion P [] h = tt
@@ -29,18 +31,6 @@ all_by_recursion P (x ∷ xs) h = (h 0 x (omega arith), all_by_recursion P xs (�
 pub all_again : {X : Type 0} (P : X → Type 0) (xs : List X) → AllByRecursion P xs → All P xs
 all_again P [] h = All-nil P
 all_again P (x ∷ xs) h = All-cons P x xs h.0 (all_again P xs h.1)
-
--- whether each byte is another one
-abbrev pub lacks_test : ℕ → List ℕ → Bool
-lacks_test c [] = true
-lacks_test c (x ∷ xs) = cond (x == c) false (lacks_test c xs)
-
-pub lacks_from_test : (c : ℕ) (xs : List ℕ) → lacks_test c xs ≡ true → Lacks c xs
-lacks_from_test c [] = λ h. tt
-lacks_from_test c (x ∷ xs) = elim (cases_Bool (x == c)) [
-  | inl e ↦ rw e (λ h. absurd (cc))
-  | inr e ↦ rw e (λ h. (refl, lacks_from_test c xs h))
-]
 
 pub head-lacks : (version : Version) → Lacks 10 (head_of version)
 head-lacks First = lacks_from_test 10 (codes "poet-run 1") refl

@@ -17,12 +17,14 @@ use Rattle.run_text.specs.declared.version.Version.TheVariants.{Second}
 use Rattle.run_text.specs.declared.stage.Stage.{Stage}
 use Rattle.run_text.specs.declared.stage.Stage.TheVariants.{Head, Counts, Jobs, Ticks, Over}
 use Rattle.run_text.specs.Text.{Stretch, stretch, stretches_of, stretch_line, head_of, job_line, counts_line, IsSegment, IsTickOf, segments_of}
-use Rattle.run_text.specs.Words.{is_text, words_of}
+use Rattle.poet_io.specs.Lines.{is_text}
+use Rattle.run_text.specs.Words.{words_of}
 use Rattle.run_text.specs.Lines.{version_of, counts_of, job_of, stretch_of}
 use Rattle.run_text.specs.Parts.{Part, part, before_jobs, is_repeated, with_stretch, after_at, after_line, IsSmall, jobs_to_come, ticks_to_come}
-use Rattle.run_text.proofs.WordFacts.{Lacks, text_is, words_of-same}
+use Rattle.poet_io.proofs.ByteFacts.{Lacks, lacks_from_test, text_is}
+use Rattle.run_text.proofs.WordFacts.{words_of-same}
 use Rattle.run_text.proofs.StretchFacts.{repeats, stretches-equal, begins}
-use Rattle.run_text.proofs.LineFacts.{IsJobIn, lacks_from_test, head-lacks, version_of-head, version_back, counts_front, counts_front-words}
+use Rattle.run_text.proofs.LineFacts.{IsJobIn, head-lacks, version_of-head, version_back, counts_front, counts_front-words}
 use Rattle.run_text.proofs.LineFacts.{counts_front-lacks, counts_line_is, counts_of-front, counts_back, stretch_front, stretch_front-words}
 use Rattle.run_text.proofs.LineFacts.{stretch_front-lacks, stretch_line_is, stretch_of-front, stretch_back, job_front, job_front-words}
 use Rattle.run_text.proofs.LineFacts.{job_front-lacks, job_line_is, job_of-front, job_back}

@@ -1,15 +1,7 @@
 -- Searches through numbers and lists of numbers.
-use Rattle.std.proofs.Common.{◌≡◌, ℕ, zero, suc, ◌<◌, ◌≤◌, ◌⊎◌, List, [], ◌∷◌, ◌++◌, length, refl, inl, inr, arith}
+use Rattle.std.proofs.Common.{◌≡◌, ℕ, zero, suc, ◌<◌, ◌≤◌, ◌⊎◌, List, [], ◌∷◌, length, refl, inl, inr, arith}
 use Rattle.std.specs.List.{AllByRecursion}
-use Rattle.std.proofs.lemmas.Bool.{cases_eq}
-use Rattle.lists.proofs.SearchFacts.{find_below}
-
--- a decided fact holds of a number below n, or of none
-pub some_below : (P : ℕ → Type 0) → ((k : ℕ) → P k ⊎ (P k → ⊥)) → (n : ℕ) → ((k : ℕ) × (k < n) × P k) ⊎ ((k : ℕ) → k < n → P k → ⊥)
-some_below P decide n = elim (find_below (λ k. P k → ⊥) P (λ k. elim (decide k) [ inl p ↦ inr p | inr out ↦ inl out ]) n) [
-  | inl none ↦ inr none
-  | inr some ↦ inl some
-]
+use Rattle.lists.proofs.SearchFacts.{some_below}
 
 -- the list is no longer than n, and none of its numbers is above the top
 pub record IsSmallList (top n : ℕ) (xs : List ℕ) : Type 0 where
@@ -45,16 +37,4 @@ some_list top (suc n) P decide = elim (decide []) [
         | inl some ↦ (let rest = some.2 in inl (some.0 ∷ rest.0, record { few = omega (arith, rest.1.few); all = (omega (arith, some.1), rest.1.all) }, rest.2))
         | inr none ↦ inr (longer_none top n P out none)
       ]
-]
-
--- the list begins with w, or does not
-pub begins_or_not : (w l : List ℕ) → ((u : List ℕ) × (l ≡ w ++ u)) ⊎ ((u : List ℕ) → l ≡ w ++ u → ⊥)
-begins_or_not [] l = inl (l, refl)
-begins_or_not (x ∷ w) [] = inr (λ u e. cc)
-begins_or_not (x ∷ w) (y ∷ l) = elim (cases_eq y x) [
-  | inl same ↦ elim (begins_or_not w l) [
-    | inl b ↦ inl (b.0, (let rest : l ≡ w ++ b.0 = b.1 in cc))
-    | inr out ↦ inr (λ u e. out u (let rest : l ≡ w ++ u = cc in rest))
-  ]
-  | inr other ↦ inr (λ u e. other (let same : y ≡ x = cc in same))
 ]

@@ -9,7 +9,8 @@ use Rattle.run_model.specs.declared.run.Tick.TheVariants.{Off, Idle, Runs}
 use Rattle.run_text.specs.declared.version.Version.{Version}
 use Rattle.run_text.specs.declared.version.Version.TheVariants.{First, Second}
 use Rattle.run_text.specs.Text.{Stretch, stretch, head_of, greatest_release}
-use Rattle.run_text.specs.Words.{words_of, is_text}
+use Rattle.poet_io.specs.Lines.{is_text}
+use Rattle.run_text.specs.Words.{words_of}
 
 -- the version of a text with this first line
 abbrev pub version_of : List ℕ → Option Version

@@ -8,7 +8,7 @@ use Rattle.run_text.specs.declared.version.Version.{Version}
 use Rattle.run_text.specs.declared.stage.Stage.{Stage}
 use Rattle.run_text.specs.declared.stage.Stage.TheVariants.{Head, Counts, Jobs, Ticks, Over}
 use Rattle.run_text.specs.Text.{Stretch, is_same}
-use Rattle.run_text.specs.Words.{is_text}
+use Rattle.poet_io.specs.Lines.{is_text}
 use Rattle.run_text.specs.Lines.{version_of, counts_of, job_of, stretch_of}
 
 -- which line comes next, and the jobs and ticks so far

@@ -1,6 +1,5 @@
 -- The words of a line.
-use Rattle.std.specs.Prelude.{ℕ, ◌==◌, Bool, if◌then◌else◌, List, [], ◌∷◌}
-use Rattle.std.specs.Cmp.Lexicographic.{pointwise}
+use Rattle.std.specs.Prelude.{ℕ, ◌==◌, if◌then◌else◌, List, [], ◌∷◌}
 
 -- the byte at the front of the first word
 abbrev pub with_byte : ℕ → List (List ℕ) → List (List ℕ)
@@ -11,7 +10,3 @@ with_byte x (w ∷ ws) = (x ∷ w) ∷ ws
 abbrev pub words_of : List ℕ → List (List ℕ)
 words_of [] = [] ∷ []
 words_of (x ∷ xs) = if x == 32 then [] ∷ words_of xs else with_byte x (words_of xs)
-
--- the bytes are these
-abbrev pub is_text : List ℕ → List ℕ → Bool
-is_text bytes text = pointwise ◌==◌ bytes text

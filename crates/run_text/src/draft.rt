@@ -1,10 +1,11 @@
 //! A run, as far as the lines of its text were read.
 
-ghost use Rattle.std.specs.Prelude.{◌≡◌, ◌≤◌, ◌++◌, ◌↔◌, length, replicate, IfOk, OnOk, IsTrue};
+ghost use Rattle.std.specs.Prelude.{◌≡◌, ◌≤◌, ◌++◌, length, replicate, IfOk, OnOk};
 ghost use Rattle.std.specs.Bool.{OnTrue};
 ghost use Rattle.lists.specs.Limits.{most_jobs};
-ghost use Rattle.run_text.specs.Words.{is_text};
-ghost use Rattle.run_text.specs.Parts.{part, nothing_read, before_jobs, is_repeated, after_stretch, after_at, after_line, jobs_to_come, ticks_to_come, IsSmall};
+ghost use Rattle.poet_io.specs.Lines.{is_text};
+ghost use Rattle.run_text.specs.Parts.{part, nothing_read, before_jobs, is_repeated, after_stretch, after_at, jobs_to_come, ticks_to_come, IsSmall};
+ghost use Rattle.run_text.specs.Parsing.{run_of};
 ghost use Rattle.run_text.specs.Drafts.{part_of, part_if};
 ghost use Rattle.run_text.specs.declared.stage.Stage.TheVariants as stage;
 
@@ -14,6 +15,7 @@ use crate::version::Version;
 use crate::writing::are_same;
 use lists::Items;
 use lists::limits::MOST_SEGMENTS;
+use poet_io::LineDraft;
 use run_model::{Run, Tick};
 use std::alloc::{AllocError, Global};
 use task_sheet::Job;
@@ -164,13 +166,29 @@ impl Draft {
         Ok(true)
     }
 
-    /// Takes the next line, and says whether it may come.
-    pub(crate) fn take(&mut self, alloc: Global, line: &[u8]) -> Result<bool, AllocError>
-        requires { IsSmall (part_of self.old) }
-        ensures next { IfOk result (λ fits. after_line (part_of self.old) line.now ≡
-            part_if fits self.new) }
-        ensures small { IfOk result (λ fits. OnTrue fits (IsSmall (part_of self.new))) }
+    pub(crate) fn into_run(self) -> Run
+        ensures { result ≡ run_of (part_of self) }
     {
+        Run {
+            jobs: Items::new(self.jobs),
+            ticks: Items::new(self.ticks),
+        }
+    }
+}
+
+impl LineDraft for Draft {
+    ghost use Rattle.run_text.specs.Parts.{Part, part, IsSmall};
+    ghost use Rattle.run_text.specs.Parsing.{run_rules};
+
+    ghost Said = { Part };
+
+    ghost said = { λ draft. part draft.stage draft.jobs.items draft.ticks.items };
+
+    ghost rules = { run_rules };
+
+    ghost is_good = { IsSmall };
+
+    fn take(&mut self, alloc: Global, line: &[u8]) -> Result<bool, AllocError> {
         match self.stage {
             Stage::Head => Ok(self.take_version(line)),
             Stage::Counts { version } => Ok(self.take_counts(line, version)),
@@ -191,18 +209,7 @@ impl Draft {
         }
     }
 
-    pub(crate) fn is_over(&self) -> bool
-        ensures { IsTrue result ↔ (self.now.stage ≡ stage.Over) }
-    {
+    fn is_over(&self) -> bool {
         matches!(&self.stage, Stage::Over)
-    }
-
-    pub(crate) fn into_run(self) -> Run
-        ensures { result ≡ record { jobs = self.jobs.items; ticks = self.ticks.items } }
-    {
-        Run {
-            jobs: Items::new(self.jobs),
-            ticks: Items::new(self.ticks),
-        }
     }
 }

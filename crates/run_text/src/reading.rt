@@ -6,7 +6,7 @@ ghost use Rattle.run_text.specs.Text.{run_format};
 ghost use Rattle.run_text.specs.Parsing.{run_of_text};
 
 use crate::draft::Draft;
-use poet_io::TextRefusal;
+use poet_io::{TextRefusal, take_lines};
 use run_model::Run;
 use std::alloc::Global;
 
@@ -22,19 +22,6 @@ pub fn read_run(alloc: Global, bytes: &[u8]) -> Result<Run, TextRefusal>
     ensures gives { AnswersReading result (run_of_text bytes.now) }
 {
     let mut draft = Draft::new(alloc);
-    let mut start = 0usize;
-    let mut line = 1u64;
-    for (at, byte) in bytes.iter().enumerate() {
-        if *byte == b'\n' {
-            if !draft.take(alloc, &bytes[start..at])? {
-                return Err(TextRefusal::Line(line));
-            }
-            start = at + 1;
-            line += 1;
-        }
-    }
-    if draft.is_over() && start == bytes.len() {
-        return Ok(draft.into_run());
-    }
-    Err(TextRefusal::Line(line))
+    take_lines(alloc, &mut draft, bytes)?;
+    Ok(draft.into_run())
 }

@@ -5,7 +5,7 @@ use Rattle.std.proofs.lemmas.Bool.{cases_lt, cases_eq, cases_Bool, and_from, and
 use Rattle.std.proofs.lemmas.Int.{ints}
 use Rattle.std.proofs.Math.Nat.{mul-le-mul_left}
 use Rattle.lists.specs.Sums.{sum_below, max_below}
-use Rattle.lists.proofs.SumFacts.{cond_mono, sum_le, sum_gap, max_at_least}
+use Rattle.lists.proofs.SumFacts.{cond_mono, sum_le, sum_gap, max_at_least, max_stands}
 use Rattle.curve.specs.CurveValue.{Curve}
 use Rattle.curve.specs.Validity.{IsCurve}
 use Rattle.curve.specs.Curves.{alpha_of}
@@ -26,17 +26,6 @@ use Rattle.demand.specs.DemandLaws.{IsRising}
 -- a job of the task alone asks for what is left of it, and more
 pub rest_fits : (m : CutMeaning) (task : Task) (d : ℕ) → IsCurve task.curve → 1 ≤ d → task.cost - m.threshold task ≤ task.cost * alpha_of task.curve d
 rest_fits m task d ok some = omega (arith, mul-le-mul_left task.cost (alpha_one task.curve ok d some))
-
--- the greatest is 0 or stands somewhere
-pub max_stands : (f : ℕ → ℕ) (n : ℕ) → (max_below f n ≡ 0) ⊎ ((o : ℕ) × (o < n) × (max_below f n ≡ f o))
-max_stands f zero = inl refl
-max_stands f (suc n) = elim (cases_lt (max_below f n) (f n)) [
-  | inl more ↦ inr (n, omega arith, omega arith)
-  | inr less ↦ elim (max_stands f n) [
-    | inl z ↦ inl (omega (arith, z))
-    | inr o ↦ inr (o.0, omega (arith, o.1), omega (arith, o.2))
-  ]
-]
 
 pub count_whole : (curve : Curve) → IsCurve curve → (jitter : ℕ) (c : Cap) (l : ℕ) → capped_count curve jitter c l ≤ alpha_of curve (l + jitter)
 count_whole curve ok jitter Nothing l = omega arith

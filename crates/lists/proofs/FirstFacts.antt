@@ -82,3 +82,8 @@ must_from false f h = cc
 pub must_fails : {F : Type 0} (b : Bool) (f : F) → b ≡ false → must b f ≡ Some f
 must_fails true f h = absurd (cc)
 must_fails false f h = refl
+
+-- a search does not see what it does not ask for
+pub first_same : {F : Type 0} (f g : ℕ → Option F) (n : ℕ) → ((k : ℕ) → k < n → f k ≡ g k) → first_below f n ≡ first_below g n
+first_same f g zero h = refl
+first_same f g (suc n) h = rw (first_same f g n (λ k b. h k (omega arith)), h n (omega arith)) refl

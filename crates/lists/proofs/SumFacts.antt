@@ -1,4 +1,4 @@
-use Rattle.std.proofs.Common.{◌≡◌, ℕ, zero, suc, ◌+◌, ◌*◌, ◌<◌, ◌≤◌, ◌==◌, Bool, true, false, cond, List, length, get_or, take, count_by, refl, ap}
+use Rattle.std.proofs.Common.{◌≡◌, ℕ, zero, suc, ◌+◌, ◌*◌, ◌<◌, ◌≤◌, ◌⊎◌, ◌==◌, Bool, true, false, cond, List, length, get_or, take, count_by, refl, ap}
 use Rattle.std.proofs.Common.{inl, inr, arith, add-one}
 use Rattle.std.proofs.lemmas.Bool.{cases_lt, ne_eqb}
 use Rattle.std.proofs.lemmas.List.Sums.{count_by_more_yes, count_by_more_no}
@@ -67,6 +67,17 @@ max_at_least f (suc n) o h = elim (cases_lt o n) [
 pub max_at_most : (f g : ℕ → ℕ) (n : ℕ) → ((o : ℕ) → o < n → f o ≤ g o) → max_below f n ≤ max_below g n
 max_at_most f g zero h = omega arith
 max_at_most f g (suc n) h = omega (arith, max_at_most f g n (λ o b. h o (omega arith)), h n (omega arith))
+
+-- the greatest is 0 or stands somewhere
+pub max_stands : (f : ℕ → ℕ) (n : ℕ) → (max_below f n ≡ 0) ⊎ ((o : ℕ) × (o < n) × (max_below f n ≡ f o))
+max_stands f zero = inl refl
+max_stands f (suc n) = elim (cases_lt (max_below f n) (f n)) [
+  | inl more ↦ inr (n, omega arith, omega arith)
+  | inr less ↦ elim (max_stands f n) [
+    | inl z ↦ inl (omega (arith, z))
+    | inr o ↦ inr (o.0, omega (arith, o.1), omega (arith, o.2))
+  ]
+]
 
 count_next : {X : Type 0} (p : X → Bool) (xs : List X) (d : X) (n : ℕ) → n < length xs →
     count_by p (take (n + 1) xs) ≡ count_by p (take n xs) + cond (p (get_or xs n d)) 1 0

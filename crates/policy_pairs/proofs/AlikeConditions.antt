@@ -1,6 +1,7 @@
 -- Policies that say the same have the same conditions.
 use Rattle.std.proofs.Common.{◌≡◌, ℕ, zero, suc, ◌-◌, ◌<◌, ◌&&◌, nat_le, nat_lt, Bool, Option, Some, None, List, [], ◌∷◌, length, refl, ap, arith}
 use Rattle.lists.specs.Firsts.{first_of, must, first_below}
+use Rattle.lists.proofs.FirstFacts.{first_same}
 use Rattle.task_sheet.specs.declared.tasks.PolicyKind.{PolicyKind}
 use Rattle.task_sheet.specs.SheetParts.{SheetParts}
 use Rattle.policy.specs.PolicyMeaning.{PolicyMeaning}
@@ -12,10 +13,6 @@ use Rattle.demand.specs.Demand.{need_of, rest_of, window_need_of}
 use Rattle.conditions.specs.Conditions.{entry_at, is_window, meets_end, rest_within, entry_failed_of, gap_failed_of, point_failed_of}
 use Rattle.conditions.specs.Conditions.{points_failed_of, task_failed_of, tasks_failed_of, failed_of}
 use Rattle.policy_pairs.proofs.Alike.{twin, IsAlike, need_same, window_need_same, at_same}
-
-first_same : {F : Type 0} (f g : ℕ → Option F) (n : ℕ) → ((k : ℕ) → k < n → f k ≡ g k) → first_below f n ≡ first_below g n
-first_same f g zero same = refl
-first_same f g (suc n) same = rw (first_same f g n (λ k b. same k (omega arith)), same n (omega arith)) refl
 
 module _ (p q : PolicyMeaning) (m : CutMeaning) (sbf : ℕ → ℕ) (s : SheetParts) (k : PolicyKind) (same : IsAlike p q s (twin s k)) where
   module _ (i : ℕ) (here : i < length s.tasks) where

@@ -6,8 +6,7 @@ use Rattle.std.proofs.lemmas.Bool.{cases_lt, le-leb, lt-leb, ltb-true, ltb-false
 use Rattle.std.proofs.lemmas.List.{get_or_append_left, get_or_at}
 use Rattle.lists.specs.Limits.{greatest_length}
 use Rattle.lists.specs.Searches.{IsLeastTo}
-use Rattle.lists.specs.Sums.{max_below}
-use Rattle.lists.proofs.SumFacts.{max_at_least}
+use Rattle.lists.proofs.SumFacts.{max_at_least, max_stands}
 use Rattle.lists.proofs.FirstFacts.{all_from, all_broken}
 use Rattle.lists.proofs.SearchFacts.{greatest_is, first_cases}
 use Rattle.curve.specs.CurveValue.{Curve}
@@ -56,16 +55,6 @@ opened_at xs g h = ap (λ (b : Bool). cond {A = ℕ} b (get_or xs (length xs - g
 
 opened_not : (xs : List ℕ) (g : Gap) → length xs < g.count → opened_by xs g ≡ 0
 opened_not xs g h = ap (λ (b : Bool). cond {A = ℕ} b (get_or xs (length xs - g.count) 0 + g.distance) 0) (lt-leb g.count (length xs) h)
-
-max_stands : (f : ℕ → ℕ) (n : ℕ) → (max_below f n ≡ 0) ⊎ ((o : ℕ) × (o < n) × (max_below f n ≡ f o))
-max_stands f zero = inl refl
-max_stands f (suc n) = elim (cases_lt (max_below f n) (f n)) [
-  | inl c ↦ inr (n, omega arith, omega arith)
-  | inr c ↦ elim (max_stands f n) [
-    | inl e ↦ inl (omega (arith, e))
-    | inr o ↦ inr (o.0, omega (arith, o.1), omega (arith, o.2))
-  ]
-]
 
 pub earliest_cases : (gaps : List Gap) (xs : List ℕ) → (earliest_by gaps xs ≡ 0) ⊎ IsImplied gaps xs (length xs) (earliest_by gaps xs)
 earliest_cases gaps xs = elim (max_stands (λ i. opened_by xs (gap_at gaps i)) (length gaps)) [

@@ -6,7 +6,7 @@ use Rattle.std.proofs.lemmas.Bool.Decides.{nat_tests}
 use Rattle.std.proofs.lemmas.List.{take-append-le, take_all, length-append}
 use Rattle.std.proofs.lemmas.List.Sums.{sum_by-append, sum_by-cons}
 use Rattle.lists.specs.Firsts.{first_of, must, first_below}
-use Rattle.lists.proofs.FirstFacts.{must_from, must_fails}
+use Rattle.lists.proofs.FirstFacts.{must_from, must_fails, first_same}
 use Rattle.task_sheet.specs.declared.tasks.Job.{Job}
 use Rattle.run_text.specs.Text.{segments_of}
 use Rattle.simulated_run.proofs.GrowthFacts.{BeginsWith, length_more}
@@ -22,11 +22,6 @@ ge-ltb m n h = grind (arith, nat_tests)
 pub segments_more : (jobs : List Job) (j : Job) → segments_of (jobs ++ j ∷ []) ≡ segments_of jobs + length j.segs
 segments_more jobs j = omega (arith, sum_by-append (λ (k : Job). length k.segs) jobs (j ∷ []), sum_by-cons (λ (k : Job). length k.segs) j [])
 
--- a search does not see what it does not ask for
-same_first : {F : Type 0} (f g : ℕ → Option F) (n : ℕ) → ((k : ℕ) → k < n → f k ≡ g k) → first_below f n ≡ first_below g n
-same_first f g zero h = refl
-same_first f g (suc n) h = rw (same_first f g n (λ k b. h k (omega arith)), h n (omega arith)) refl
-
 passed_front : (jobs more : List Job) (k : ℕ) → k < length jobs → passed_at (jobs ++ more) k ≡ passed_at jobs k
 passed_front jobs more k h =
     ap (λ (l : List Job). first_of (must (ltb k 20000) Jobs) (must (leb (segments_of l) 1000000) Segments))
@@ -37,7 +32,7 @@ refused_more : (jobs : List Job) (j : Job) → refused_by (jobs ++ j ∷ []) ≡
 unfolding refused_by
 refused_more jobs j =
     ap (first_below (passed_at (jobs ++ j ∷ []))) (length_more jobs j)
-    ∙ ap (λ (x : Option SimRefusal). first_of x (passed_at (jobs ++ j ∷ []) (length jobs))) (same_first _ _ (length jobs) (passed_front jobs (j ∷ [])))
+    ∙ ap (λ (x : Option SimRefusal). first_of x (passed_at (jobs ++ j ∷ []) (length jobs))) (first_same _ _ (length jobs) (passed_front jobs (j ∷ [])))
 
 segments_then : (jobs : List Job) (j : Job) → segments_of (take (length jobs + 1) (jobs ++ j ∷ [])) ≡ segments_of jobs + length j.segs
 segments_then jobs j = ap segments_of (take_all (length jobs + 1) (jobs ++ j ∷ []) (omega (arith, length_more jobs j))) ∙ segments_more jobs j
@@ -87,7 +82,7 @@ first_then f x n (suc m) h e = elim (cases_lt n (suc m)) [
 refused_on : (xs ys : List Job) (e : SimRefusal) → BeginsWith xs ys → refused_by ys ≡ Some e → refused_by xs ≡ Some e
 unfolding refused_by
 refused_on xs ys e b h =
-    let front : first_below (passed_at (ys ++ b.rest)) (length ys) ≡ Some e = same_first _ _ (length ys) (passed_front ys b.rest) ∙ h in
+    let front : first_below (passed_at (ys ++ b.rest)) (length ys) ≡ Some e = first_same _ _ (length ys) (passed_front ys b.rest) ∙ h in
     let whole : first_below (passed_at (ys ++ b.rest)) (length (ys ++ b.rest)) ≡ Some e =
     first_then _ e (length ys) (length (ys ++ b.rest)) (omega (arith, length-append ys b.rest)) front in
     subst (λ (l : List Job). first_below (passed_at l) (length l) ≡ Some e) b.whole whole

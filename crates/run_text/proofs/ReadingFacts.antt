@@ -92,8 +92,7 @@ left_whole p over =
 left_over : (p : Part) (t : List ℕ) (run : Run) → is_over p.stage ≡ true → Left p t run → (t ≡ []) × (run ≡ run_of p)
 left_over p t run over l =
     let at = stage_over p.stage over in
-    let none : NoRest l.jobs l.ticks = subst (λ (s : Stage). Rest s (length p.jobs) l.version l.jobs l.ticks) at l.rest in
-    (
+    let none : NoRest l.jobs l.ticks = subst (λ (s : Stage). Rest s (length p.jobs) l.version l.jobs l.ticks) at l.rest in (
       l.text ∙ text_over p.stage l.version l.jobs l.ticks at,
       l.is ∙ same_run (p.jobs ++ l.jobs) p.jobs (p.ticks ++ l.ticks) p.ticks
           (ap (λ (js : List Job). p.jobs ++ js) none.no_jobs ∙ append-nil p.jobs) (ap (λ (xs : List Tick). p.ticks ++ xs) none.no_ticks ∙ append-nil p.ticks),

@@ -2,6 +2,7 @@ pub mod LawFacts
 pub mod Rises
 pub mod Jumps
 pub mod WindowFacts
+pub mod LoadFacts
 pub mod Listing
 pub mod Chain
 pub mod Least

@@ -5,3 +5,4 @@ pub mod Outcome
 pub mod Answer
 pub mod Ends
 pub mod Windows
+pub mod Loads

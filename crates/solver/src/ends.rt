@@ -8,6 +8,7 @@ ghost use Rattle.demand.specs.Meeting.{MeetsEnd};
 ghost use Rattle.meter.specs.Meters.{meter_at};
 ghost use Rattle.solver.specs.Ends.{HasNoEndBefore};
 
+use crate::bounds::end_bound;
 use crate::laws::{laws, need_rises};
 use meter::Meter;
 use policy::Policy;
@@ -38,14 +39,20 @@ pub fn next_end<P: Policy, M: Preemption, S: Supply>(
 {
     laws::<P, M, S>(sheet, supply);
     let mut end = begin;
+    let mut turn = 0;
     while end <= limit {
-        let Some(next) = supply.least(meter.need(), limit) else {
+        let wanted = meter.need();
+        let Some(next) = supply.least(wanted, limit) else {
             return None;
         };
         if next <= end {
             return Some(end);
         }
-        end = next;
+        end = next.max(end_bound::<P, M>(sheet, i, a, end, wanted, limit, turn));
+        if end > limit {
+            return None;
+        }
+        turn += 1;
         meter.move_to(a, end);
     }
     None

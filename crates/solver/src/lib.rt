@@ -2,9 +2,11 @@
 #![tactic(auto)]
 
 mod analysis;
+mod bounds;
 mod ends;
 mod entries;
 mod laws;
+mod load;
 mod meaning;
 mod searches;
 mod windows;

@@ -9,6 +9,7 @@ ghost use Rattle.preemption.specs.CutLaws.{Serves};
 ghost use Rattle.demand.specs.Demand.{need_of, rest_of};
 ghost use Rattle.demand.specs.Meeting.{IsWindow, MeetsEnd, BoundMeets};
 
+use crate::bounds::{end_bound, window_bound};
 use crate::laws::laws;
 use demand::{need, rest, window_need};
 use policy::Policy;
@@ -30,14 +31,17 @@ pub fn least_window<P: Policy, M: Preemption, S: Supply>(
 {
     laws::<P, M, S>(sheet, supply);
     let mut window = 1;
+    let mut turn = 0;
     while window <= horizon {
-        let Some(next) = supply.least(window_need::<P, M>(sheet, i, window), horizon) else {
+        let wanted = window_need::<P, M>(sheet, i, window);
+        let Some(next) = supply.least(wanted, horizon) else {
             return None;
         };
         if next <= window {
             return Some(window);
         }
-        window = next;
+        window = next.max(window_bound::<P, M>(sheet, i, window, wanted, horizon, turn));
+        turn += 1;
     }
     None
 }
@@ -59,14 +63,17 @@ pub fn least_end<P: Policy, M: Preemption, S: Supply>(
 {
     laws::<P, M, S>(sheet, supply);
     let mut end = 0;
+    let mut turn = 0;
     while end <= limit {
-        let Some(next) = supply.least(need::<P, M>(sheet, i, a, end), limit) else {
+        let wanted = need::<P, M>(sheet, i, a, end);
+        let Some(next) = supply.least(wanted, limit) else {
             return None;
         };
         if next <= end {
             return Some(end);
         }
-        end = next;
+        end = next.max(end_bound::<P, M>(sheet, i, a, end, wanted, limit, turn));
+        turn += 1;
     }
     None
 }

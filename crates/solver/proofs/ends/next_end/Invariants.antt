@@ -5,6 +5,7 @@ use Rattle.solver.proofs.ends.next_end.Given as goal
 
 abbrev pub invariant-loop-end : goal.invariant-loop-end
 invariant-loop-end g l = record {
+  turns : l.turn ≤ l.end;
   at : l.meter ≡ meter_at l.sheet l.i l.a l.end;
   before : HasNoEndBefore g.P.Policy.meaning g.M.Preemption.cuts (g.S.Supply.sbf l.supply) l.sheet l.i l.a l.end;
 }

@@ -1,7 +1,8 @@
 -- What the load of tasks says of how long their windows are.
 use Rattle.std.proofs.Common.{◌≡◌, ℕ, zero, suc, ◌+◌, ◌-◌, ◌*◌, ◌/◌, ◌%◌, ◌^◌, ◌<◌, ◌≤◌, ◌≢◌, max, min}
-use Rattle.std.proofs.Common.{Bool, true, cond, length, ap, add-one, ℤ, eq-eqb, subst, arith, inl, inr}
+use Rattle.std.proofs.Common.{Bool, true, cond, length, ap, add-one, ℤ, eq-eqb, subst, sym, arith, inl, inr}
 use Rattle.std.proofs.lemmas.Bool.{cases_lt, ne_eqb}
+use Rattle.std.proofs.lemmas.Nat.{div_below, le-div}
 use Rattle.std.proofs.Math.Nat.{mul-le-mul_left, mul-le-mul_right}
 use Rattle.lists.specs.Limits.{greatest_value, greatest_number}
 use Rattle.lists.specs.Sums.{sum_below, max_below}
@@ -32,7 +33,7 @@ module _ (c : Curve) (ok : IsCurve c) where
   unfolding alpha_of
   value_within r lt =
       let positive : 0 < c.horizon = ok.horizon_low in
-      let none : r / c.horizon ≡ 0 = omega arith in
+      let none : r / c.horizon ≡ 0 = omega (arith, div_below r c.horizon 1 positive (omega (arith, lt))) in
       let all : r % c.horizon ≡ r = omega (arith, ap (λ (w : ℕ). c.horizon * w) none) in
       omega (arith, ap (λ (w : ℕ). w * value_of c c.horizon) none, ap (value_of c) all)
 
@@ -40,7 +41,8 @@ module _ (c : Curve) (ok : IsCurve c) where
   unfolding alpha_of
   top_is =
       let positive : 0 < c.horizon = ok.horizon_low in
-      let one : c.horizon / c.horizon ≡ 1 = omega arith in
+      let one : c.horizon / c.horizon ≡ 1 =
+          omega (arith, le-div 1 c.horizon c.horizon positive (omega arith), div_below c.horizon c.horizon 2 positive (omega (arith, positive))) in
       let none : c.horizon % c.horizon ≡ 0 = omega (arith, ap (λ (w : ℕ). c.horizon * w) one) in
       omega (arith, ap (λ (w : ℕ). w * value_of c c.horizon) one, ap (value_of c) none, value_within 0 positive, alpha_zero c ok)
 
@@ -108,12 +110,16 @@ slope_under t is x line rate fixed loss l from to =
     let rises = parts_line t.curve.horizon t.cost top y (alpha_of t.curve y) d line.rate is.curve.horizon_low rate (curve_line t.curve is.curve y) in
     omega (arith, rises, later, fixed, loss)
 
--- what does not fall lies above a flat line
-pub flat_under : (part : ℕ → ℕ → ℕ) (o x : ℕ) (line : Line) → line.fixed ≡ 0 → line.rate ≡ 0 → ((l : ℕ) → x ≤ l → part x o ≤ part l o) → IsUnderAt part o x line
-flat_under part o x line fixed rate grows l from to = omega (arith, fixed, grows l from, ap (λ (w : ℕ). w * l) rate)
+-- a line that does not rise
+abbrev pub flat : Line
+flat = record { fixed = 0; rate = 0; loss = 0; cut = 4000000000 }
 
-pub under_none : (part : ℕ → ℕ → ℕ) (x : ℕ) (line : Line) → line.fixed ≡ 0 → line.rate ≡ 0 → IsUnderTo part 0 x line
-under_none part x line fixed rate l from to = omega (arith, fixed, ap (λ (w : ℕ). w * l) rate)
+-- what does not fall lies above it
+flat_under : (part : ℕ → ℕ → ℕ) (o x : ℕ) → ((l : ℕ) → x ≤ l → part x o ≤ part l o) → IsUnderAt part o x flat
+flat_under part o x grows l from to = omega (arith, grows l from)
+
+pub under_none : (part : ℕ → ℕ → ℕ) (x : ℕ) → IsUnderTo part 0 x flat
+under_none part x l from to = omega arith
 
 module _ (part : ℕ → ℕ → ℕ) (n x : ℕ) (line more both : Line) (fixed : both.fixed ≡ line.fixed + more.fixed) (rate : both.rate ≡ line.rate + more.rate) where
   under_next : both.loss ≡ line.loss + more.loss → both.cut ≤ line.cut → both.cut ≤ more.cut →
@@ -126,6 +132,9 @@ module _ (part : ℕ → ℕ → ℕ) (n x : ℕ) (line more both : Line) (fixed
   pub under_more : both.loss ≡ line.loss + more.loss → both.cut ≤ line.cut → both.cut ≤ more.cut →
       IsUnderTo part n x line → IsUnderAt part n x more → IsUnderTo part (n + 1) x both
   under_more loss short shorter below here = rw add-one (under_next loss short shorter below here)
+
+pub under_all : (part : ℕ → ℕ → ℕ) (n all x : ℕ) (line : Line) → n ≡ all → IsUnderTo part n x line → IsUnderTo part all x line
+under_all part n all x line e = subst (λ (w : ℕ). IsUnderTo part w x line) e
 
 -- a supply of a tick a tick that has not caught up
 pub caught_up : (line : Line) (wanted l bound : ℕ) → line.loss < line.fixed + wanted * scale → line.rate < scale →
@@ -151,9 +160,9 @@ module _ (p : PolicyMeaning) (m : CutMeaning) (sheet : SheetParts) (i : ℕ) whe
   unfolding window_need_of
   window_risen x horizon wanted bound line e under crossing l from to enough = crossing l to (λ below. omega (arith, under l from below, e, enough))
 
-  pub windows_both : (x horizon low high : ℕ) → IsBelowWindows p m sheet i x horizon low → IsBelowWindows p m sheet i x horizon high →
-      IsBelowWindows p m sheet i x horizon (max low high)
-  windows_both x horizon low high a b l from to enough = omega (arith, a l from to enough, b l from to enough)
+  pub windows_both : (x horizon low high both : ℕ) → both ≤ max low high → IsBelowWindows p m sheet i x horizon low →
+      IsBelowWindows p m sheet i x horizon high → IsBelowWindows p m sheet i x horizon both
+  windows_both x horizon low high both le first second l from to enough = omega (arith, le, first l from to enough, second l from to enough)
 
   -- no window before the next jump is one
   pub windows_skipped : (sbf : ℕ → ℕ) (window next horizon bound k : ℕ) → ((d : ℕ) → sbf d ≤ d) → ((j : ℕ) → j < window → IsWindow p m sbf sheet i j → ⊥) →
@@ -168,48 +177,48 @@ module _ (p : PolicyMeaning) (m : CutMeaning) (sheet : SheetParts) (i : ℕ) whe
         omega (arith, jump, load, lt)
   ]
 
-module _ (p : PolicyMeaning) (sheet : SheetParts) (i o x : ℕ) (t : Task) (line : Line) (e : t ≡ task_at sheet o) where
-  pub part_under : p.class sheet i o ≡ true → IsUnderWhole t x line → IsUnderAt (class_part_of p sheet i) o x line
-  part_under is whole l from to =
+module _ (p : PolicyMeaning) (sheet : SheetParts) (i o x : ℕ) (t : Task) (e : t ≡ task_at sheet o) where
+  pub part_under : (line : Line) → p.class sheet i o ≡ true → IsUnderWhole t x line → IsUnderAt (class_part_of p sheet i) o x line
+  part_under line is whole l from to =
       let task = task_at sheet o in
       let under = subst (λ (w : Task). IsUnderWhole w x line) e whole in
       omega (arith, under l from to, ap (λ (b : Bool). cond b (whole_of task x) 0) is, ap (λ (b : Bool). cond b (whole_of task l) 0) is)
 
-  pub part_flat : IsTask t → line.fixed ≡ 0 → line.rate ≡ 0 → IsUnderAt (class_part_of p sheet i) o x line
-  part_flat valid fixed rate =
+  pub part_flat : IsValidSheet sheet → o < length sheet.tasks → IsUnderAt (class_part_of p sheet i) o x flat
+  part_flat valid in_range =
       let task = task_at sheet o in
-      let is = subst IsTask e valid in
-      flat_under (class_part_of p sheet i) o x line fixed rate (λ l h.
+      flat_under (class_part_of p sheet i) o x (λ l h.
           cond_mono (p.class sheet i o) (whole_of task x) (whole_of task l)
-          (mul-le-mul_left task.cost (alpha_mono task.curve is.curve (x + task.jitter) (l + task.jitter) (omega (arith, h)))))
+          (mul-le-mul_left task.cost (alpha_mono task.curve (valid.each o in_range).curve (x + task.jitter) (l + task.jitter) (omega (arith, h)))))
 
-pub capped_flat : (t : Task) → IsTask t → (cap : Cap) (x : ℕ) (line : Line) → line.fixed ≡ 0 → line.rate ≡ 0 → IsUnderCapped t cap x line
-capped_flat t is cap x line fixed rate l from to =
-    omega (arith, fixed, mul-le-mul_left t.cost (count_grows t.curve is.curve t.jitter cap x l from), ap (λ (w : ℕ). w * l) rate)
+pub capped_flat : (t : Task) → IsTask t → (cap : Cap) (x : ℕ) → IsUnderCapped t cap x flat
+capped_flat t is cap x l from to = omega (arith, mul-le-mul_left t.cost (count_grows t.curve is.curve t.jitter cap x l from))
+
+-- a line up to a window
+abbrev pub line_to : Line → ℕ → Line
+line_to line k = record { fixed = line.fixed; rate = line.rate; loss = line.loss; cut = k }
 
 -- below the cap all jobs count
-pub capped_under : (t : Task) (c : ℤ) (x : ℕ) (line cut : Line) → IsUnderWhole t x line → cut.fixed ≡ line.fixed → cut.rate ≡ line.rate →
-    cut.loss ≡ line.loss → cut.cut ≤ line.cut →
-    cut.cut + t.jitter ≤ not_below_zero c → IsUnderCapped t (At c) x cut
-capped_under t c x line cut under fixed rate loss short within l from to =
+pub capped_under : (t : Task) (c : ℤ) (x : ℕ) (line : Line) (k : ℕ) → IsUnderWhole t x line → k ≤ line.cut →
+    k + t.jitter ≤ not_below_zero c → IsUnderCapped t (At c) x (line_to line k)
+capped_under t c x line k under short within l from to =
     let now : min (l + t.jitter) (not_below_zero c) ≡ l + t.jitter = omega (arith, within, to) in
     let then : min (x + t.jitter) (not_below_zero c) ≡ x + t.jitter = omega (arith, within, to, from) in
     omega (
       arith,
       under l from (omega (arith, to, short)),
-      fixed,
-      loss,
-      ap (λ (w : ℕ). w * l) rate,
       ap (λ (w : ℕ). t.cost * alpha_of t.curve w) now,
       ap (λ (w : ℕ). t.cost * alpha_of t.curve w) then,
     )
 
-pub other_own : (p : PolicyMeaning) (sheet : SheetParts) (i a o x : ℕ) (line : Line) → o ≡ i → line.fixed ≡ 0 → line.rate ≡ 0 →
-    IsUnderAt (other_of p sheet i a) o x line
-other_own p sheet i a o x line e fixed rate l from to =
+pub by_cap : (t : Task) (cap is : Cap) (x : ℕ) (line : Line) → cap ≡ is → IsUnderCapped t is x line → IsUnderCapped t cap x line
+by_cap t cap is x line e = subst (λ (w : Cap). IsUnderCapped t w x line) (sym e)
+
+pub other_own : (p : PolicyMeaning) (sheet : SheetParts) (i a o x : ℕ) → o ≡ i → IsUnderAt (other_of p sheet i a) o x flat
+other_own p sheet i a o x e l from to =
     let own = eq-eqb o i e in
     let part = λ (w : ℕ). (task_at sheet o).cost * capped_count (task_at sheet o).curve (task_at sheet o).jitter (p.cap sheet i o a) w in
-    omega (arith, fixed, ap (λ (w : ℕ). w * l) rate, ap (λ (b : Bool). cond b 0 (part x)) own, ap (λ (b : Bool). cond b 0 (part l)) own)
+    omega (arith, ap (λ (b : Bool). cond b 0 (part x)) own, ap (λ (b : Bool). cond b 0 (part l)) own)
 
 pub other_under : (p : PolicyMeaning) (sheet : SheetParts) (i a o x : ℕ) (line : Line) (t : Task) (cap : Cap) → o ≢ i → t ≡ task_at sheet o →
     cap ≡ p.cap sheet i o a → IsUnderCapped t cap x line → IsUnderAt (other_of p sheet i a) o x line
@@ -226,9 +235,9 @@ module _ (p : PolicyMeaning) (m : CutMeaning) (sheet : SheetParts) (i a : ℕ) w
   unfolding need_of others_of
   end_risen x limit wanted bound line e under crossing l from to enough = crossing l to (λ below. omega (arith, under l from below, e, enough))
 
-  pub ends_both : (x limit low high : ℕ) → IsBelowEnds p m sheet i a x limit low → IsBelowEnds p m sheet i a x limit high →
-      IsBelowEnds p m sheet i a x limit (max low high)
-  ends_both x limit low high first second l from to enough = omega (arith, first l from to enough, second l from to enough)
+  pub ends_both : (x limit low high both : ℕ) → both ≤ max low high → IsBelowEnds p m sheet i a x limit low →
+      IsBelowEnds p m sheet i a x limit high → IsBelowEnds p m sheet i a x limit both
+  ends_both x limit low high both le first second l from to enough = omega (arith, le, first l from to enough, second l from to enough)
 
   -- no end before the next jump serves
   pub ends_skipped : (sbf : ℕ → ℕ) (x next limit bound k : ℕ) → ((d : ℕ) → sbf d ≤ d) → HasNoEndBefore p m sbf sheet i a x →
@@ -243,8 +252,8 @@ module _ (p : PolicyMeaning) (m : CutMeaning) (sheet : SheetParts) (i a : ℕ) w
         omega (arith, jump, load, lt)
   ]
 
-pub small_none : (line : Line) → line.fixed ≡ 0 → line.rate ≡ 0 → line.loss ≡ 0 → line.cut ≤ 4000000000 → (n : ℕ) → IsSmallLine n line
-small_none line fixed rate loss cut n = record { fixed = omega (arith, fixed); rate = omega (arith, rate); loss = omega (arith, loss); cut = cut }
+pub small_none : (n : ℕ) → IsSmallLine n flat
+small_none n = record { fixed = omega arith; rate = omega arith; loss = omega arith; cut = omega arith }
 
 pub small_both : (n : ℕ) (line more both : Line) → IsSmallLine n line → IsSmallLine 1 more → both.fixed ≡ line.fixed + more.fixed →
     both.rate ≡ line.rate + more.rate → both.loss ≡ line.loss + more.loss → both.cut ≤ line.cut → IsSmallLine (n + 1) both
@@ -253,15 +262,6 @@ small_both n line more both small one fixed rate loss cut = record {
   rate = omega (arith, small.rate, one.rate, rate);
   loss = omega (arith, small.loss, one.loss, loss);
   cut = omega (arith, small.cut, cut);
-}
-
-pub small_slope : (rate jitter asked later : ℕ) (line : Line) → rate ≤ 2 ^ 86 → jitter ≤ greatest_number → asked ≤ 2 ^ 81 → later ≤ 2 ^ 50 →
-    line.fixed ≡ rate * jitter → line.rate ≡ rate → line.loss ≡ (asked + later) * scale → line.cut ≤ 4000000000 → IsSmallLine 1 line
-small_slope rate jitter asked later line low short few rest fixed is loss cut = record {
-  fixed = omega (arith, fixed, low, mul-le-mul_left rate short);
-  rate = omega (arith, is, low);
-  loss = omega (arith, loss, few, rest);
-  cut = cut;
 }
 
 pub small_more : (n k : ℕ) (line : Line) → n ≤ k → IsSmallLine n line → IsSmallLine k line

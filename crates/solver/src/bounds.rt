@@ -8,6 +8,7 @@ ghost use Rattle.lists.specs.Limits.{greatest_number};
 ghost use Rattle.preemption.specs.CutLaws.{Serves};
 ghost use Rattle.task_sheet.specs.Sheets.{IsTask};
 ghost use Rattle.policy.specs.declared.keys.Cap.TheVariants.{At};
+ghost use Rattle.policy.specs.Keys.{not_below_zero};
 ghost use Rattle.demand.specs.Demand.{other_of, class_part_of, need_of, window_need_of};
 ghost use Rattle.solver.specs.Loads.{IsUnderWhole, IsUnderCapped, IsUnderAt, IsUnderTo, IsSmallLine, IsBelowWindows, IsBelowEnds};
 
@@ -49,7 +50,15 @@ fn class_line<P: Policy>(sheet: &Sheet, i: u32, x: u64, long: u64) -> Line
     line
 }
 
+/// How far a cap reaches, in ticks from the window's begin.
+fn reach(c: i64) -> u64
+    ensures { result ≡ not_below_zero c }
+{
+    if c <= 0 { 0 } else { c as u64 }
+}
+
 /// The line of all that a task asks for, as far as it lies below the cap.
+#[tactic(auto, using(task_sheet::specs::Limits::jitter_high))]
 fn capped(task: &Task, c: i64, x: u64) -> Line
     requires valid { IsTask task.now }
     requires window { x ≤ greatest_number }
@@ -57,15 +66,16 @@ fn capped(task: &Task, c: i64, x: u64) -> Line
     ensures small { IsSmallLine 1 result }
 {
     let line = slope(task, x);
+    let end = reach(c);
     let released = x + task.jitter;
-    if c <= released as i64 {
+    if end <= released {
         return FLAT;
     }
     Line {
         fixed: line.fixed,
         rate: line.rate,
         loss: line.loss,
-        cut: line.cut.min(c as u64 - task.jitter),
+        cut: line.cut.min(end - task.jitter),
     }
 }
 
@@ -137,7 +147,7 @@ fn longest_window<P: Policy, M: Preemption>(
 {
     // for the proof: the sheet is valid
     let _valid = sheet.len();
-    let mut bound = 0;
+    let mut bound: u64 = 0;
     let mut long = 1;
     while long <= GREATEST_NUMBER {
         let line = class_line::<P>(sheet, i, window, long);
@@ -192,7 +202,7 @@ fn longest_end<P: Policy, M: Preemption>(
 {
     // for the proof: the sheet is valid
     let _valid = sheet.len();
-    let mut bound = 0;
+    let mut bound: u64 = 0;
     let mut long = 1;
     while long <= GREATEST_NUMBER {
         let line = others_line::<P>(sheet, i, a, x, long);

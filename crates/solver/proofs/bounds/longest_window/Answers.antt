@@ -12,7 +12,7 @@ pub loop-long-preserved : goal.loop-long-preserved
 loop-long-preserved g c =
     record {
       some = omega (arith, c.loop-long.invariant.some);
-      below = windows_both _ _ _ _ _ _ _ _ c.loop-long.invariant.below
+      below = windows_both _ _ _ _ _ _ _ _ _ (omega (arith, c.max-bound.ensures)) c.loop-long.invariant.below
           (window_risen _ _ _ _ _ _ _ _ _ c.requires.wanted c.class_line-line.ensures.under c.crossing.ensures.below);
       within = omega (arith, c.loop-long.invariant.within, c.crossing.ensures.within, c.max-bound.ensures);
     }

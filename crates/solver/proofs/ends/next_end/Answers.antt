@@ -34,7 +34,7 @@ loop-end-preserved g c =
     let need = rw c.loop-end.invariant.at at c.need-wanted.ensures.exact in
     record {
       turns = omega (arith, c.loop-end.invariant.turns, c.max-end.ensures);
-      at = c.move_to.ensures;
+      at = rw c.loop-end.invariant.at at c.move_to.ensures;
       before = λ k lt. ends_skipped _ _ _ _ _ (g.S.Supply.sbf c.args.supply.now) c.loop-end.end c.in-Some.next c.args.limit
           c.end_bound.result k laws.within c.loop-end.invariant.before
           (λ j n h. laws.need_grows c.args.i c.args.a j n c.requires.task h)

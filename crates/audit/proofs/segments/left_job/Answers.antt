@@ -11,7 +11,8 @@ use Rattle.audit.proofs.segments.left_job.Goals as goal
 
 pub can_cut_job-requires-clause-job : goal.can_cut_job-requires-clause-job
 can_cut_job-requires-clause-job g c =
-    (subst (OnlyMayFail (λ k. can_cut g.M.Preemption.cuts c.args.sheet.now c.args.run.now k c.args.t) (length c.args.run.now.jobs)) c.in-Some.is c.requires.last).0
+    (subst (OnlyMayFail (λ k. can_cut g.M.Preemption.cuts c.args.sheet.now c.args.run.now k c.args.t) (length c.args.run.now.jobs))
+    c.in-Some.is c.requires.last).0
 
 pub returns-then-not-leaves-clause-first : goal.returns-then-not-leaves-clause-first
 returns-then-not-leaves-clause-first g c =

@@ -7,6 +7,7 @@ ghost use Rattle.preemption.specs.CutLaws.{Serves};
 ghost use Rattle.supply.specs.Promises.{sbf_of};
 ghost use Rattle.run_text.specs.Text.{IsWithinLimits};
 ghost use Rattle.schedule_laws.specs.Compliance.{IsCompliant};
+ghost use Rattle.windows.specs.Times.{AreNeededTimes};
 ghost use Rattle.simulated_run.specs.declared.mode.Mode.TheVariants.{Dense};
 ghost use Rattle.simulated_run.specs.Laws.{IsDense};
 ghost use Rattle.simulated_run.specs.SimulatedRun.{World, world_of, seed_of as seed_by, moment_after};
@@ -31,6 +32,7 @@ use std::alloc::{AllocError, Global};
 use std::collections::{BTreeMap, BTreeSet};
 use supply::Supply;
 use task_sheet::Sheet;
+use windows::{PromisedTime, needed_times};
 
 fn seed_of(mode: Mode) -> u64
     ensures { (w : World) → result ≡ seed_by w mode }
@@ -97,6 +99,7 @@ fn run_tick<P: Policy, M: Tabled>(
     mode: Mode,
     simulation: &mut Simulation,
     openings: &mut Openings,
+    needed: &[PromisedTime],
     t: u64,
 ) -> Result<(), SimRefusal>
     requires time { t ≤ most_ticks }
@@ -104,6 +107,7 @@ fn run_tick<P: Policy, M: Tabled>(
     requires kept { IsKept P.meaning M.cuts sheet.now t simulation.old }
     requires stage { moment_of simulation.old ≡ moment_after (world_by P.meaning M.cuts sheet.now mode) t }
     requires openings { AreOpenings sheet.now (run_of simulation.old) t openings.old }
+    requires needed { AreNeededTimes sheet.now.supply needed.now }
     ensures moment { OnOk result (moment_of simulation.new ≡
         moment_after (world_by P.meaning M.cuts sheet.now mode) (suc t)) }
     ensures kept { OnOk result (IsKept P.meaning M.cuts sheet.now (suc t) simulation.new) }
@@ -113,7 +117,7 @@ fn run_tick<P: Policy, M: Tabled>(
 {
     let_in::<P, M>(sheet, simulation, t)?;
     arrive::<P, M>(alloc, sheet, mode, simulation, openings, t)?;
-    add_tick::<P, M>(sheet, mode, simulation, t)?;
+    add_tick::<P, M>(sheet, mode, needed, simulation, t)?;
     Ok(())
 }
 
@@ -144,8 +148,17 @@ pub fn simulate<P: Policy, M: Tabled, S: Supply>(
     dense_is_full::<P, M, S>();
     let mut simulation = start::<P, M>(alloc, sheet, mode)?;
     let mut openings = open_all(alloc, sheet.len())?;
+    let needed = needed_times(alloc, sheet)?;
     for t in 0..n {
-        run_tick::<P, M>(alloc, sheet, mode, &mut simulation, &mut openings, t)?;
+        run_tick::<P, M>(
+            alloc,
+            sheet,
+            mode,
+            &mut simulation,
+            &mut openings,
+            &needed,
+            t,
+        )?;
     }
     let Simulation { jobs, ticks, .. } = simulation;
     Ok(Run {

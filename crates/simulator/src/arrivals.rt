@@ -207,10 +207,10 @@ fn arrive_from<P: Policy, M: Tabled>(
     if t < start {
         return Ok(start);
     }
-    arrive_of::<P, M>(alloc, sheet, mode, simulation, gaps, o, t)?;
     let curve = &sheet.task(o).curve;
+    cover(curve, gaps, &simulation.arrivals[o as usize])?;
+    arrive_of::<P, M>(alloc, sheet, mode, simulation, gaps, o, t)?;
     let arrivals = simulation.arrivals[o as usize].as_slice();
-    cover(curve, gaps, arrivals)?;
     Ok(next_opening(curve, gaps, arrivals, t + 1))
 }
 

@@ -138,6 +138,9 @@ fn arrivals_of(alloc: Global, run: &Run, task: u32) -> Result<Vec<u64>, AllocErr
 fn simulated_arrivals_give_a_curve_at_most_the_task_s_own(rt: HostRuntime) -> Result<(), Fail> {
     let alloc = rt.alloc();
     let sheet = read_sheet(alloc, EIGHT_TASKS.as_bytes())?;
+    if sheet.len() < 3 {
+        return Err("no third task").map_err(Fail::from);
+    }
     let own = &sheet.task(2).curve;
     for mode in [Mode::Dense, Mode::Seed(7)] {
         let run = simulate::<Fp, PerTask, Sheet>(alloc, &sheet, &sheet, mode, 20_000)?;

@@ -28,7 +28,9 @@ const NO_CERTIFICATE: &str = "read failed: certificate\n";
 
 const NO_RUN: &str = "read failed: run\n";
 
-const FAILING: [Failing; 23] = [
+const NO_TRACE: &str = "read failed: trace\n";
+
+const FAILING: [Failing; 25] = [
     Failing {
         words: "check s c",
         call: NEVER,
@@ -213,6 +215,22 @@ const FAILING: [Failing; 23] = [
         out: "",
         err: "write failed\n",
     },
+    Failing {
+        words: "infer s 6",
+        call: 0,
+        write: NEVER,
+        status: 3,
+        out: "",
+        err: NO_TRACE,
+    },
+    Failing {
+        words: "infer s 6",
+        call: 1,
+        write: NEVER,
+        status: 3,
+        out: "",
+        err: NO_TRACE,
+    },
 ];
 
 fn one(alloc: Global, at: u64) -> Result<Vec<u64>, AllocError> {
@@ -285,6 +303,25 @@ fn a_certificate_past_its_limit(rt: HostRuntime) -> Result<(), Fail> {
     let certificate = vec![in alloc; b'p'; 67_108_865]?;
     let line = "limit: certificate is longer than 67108864 bytes\n";
     assert_check(&rt, alloc, ONE_TASK.as_bytes(), &certificate, (7, "", line))?;
+    Ok(())
+}
+
+/// The line in which it is refused, at its limit, and its length, past it.
+#[test]
+fn a_trace_at_its_limit_and_past_it(rt: HostRuntime) -> Result<(), Fail> {
+    let alloc = rt.alloc();
+    let words = words_of(alloc, "infer s 6")?;
+    let lines = [
+        (1_048_576, 6, "trace: line 1 is not of the format\n"),
+        (1_048_577, 7, "limit: trace is longer than 1048576 bytes\n"),
+    ];
+    for (len, status, line) in lines {
+        let trace = vec![in alloc; b'p'; len]?;
+        let shelf = shelf_of(alloc, &trace, &[], Vec::new(alloc))?;
+        let (out, err) = (sink_of(alloc, 99)?, sink_of(alloc, 99)?);
+        let said = (status, b"".as_slice(), line.as_bytes());
+        assert_said(&rt, alloc, &words, shelf, out, err, said);
+    }
     Ok(())
 }
 

@@ -15,9 +15,9 @@ use Rattle.poet_cli.specs.Answers.{sheet_read, sheet_by}
 use Rattle.poet_cli.specs.Words.{Asked}
 use Rattle.poet_cli.specs.Readings.{ShelfAt, WasRead, IsFileReading}
 use Rattle.poet_cli.specs.Steps.{Gives, After, Reads, ReadsSheet, NoFile, OneFile, ReadsNext, TwoFiles}
-use Rattle.poet_cli.specs.Origins.{OfOneFile, OfTwoFiles}
+use Rattle.poet_cli.specs.Origins.{OfFile, OfOneFile, OfTwoFiles}
 use Rattle.poet_cli.specs.Works.{Work}
-use Rattle.poet_cli.specs.Program.{Plan, Alone, OverSheet, OverBoth, plan_of, PlanDoes, PlanSays, Does, Headline, Objection}
+use Rattle.poet_cli.specs.Program.{Plan, Alone, OverFile, OverSheet, OverBoth, plan_of, PlanDoes, PlanSays, Does, Headline, Objection}
 use Rattle.poet_cli.specs.Clauses.{LeavesShelf}
 
 -- a sheet was read from these bytes
@@ -48,6 +48,13 @@ gave_by which name Ends before now value (Err refusal) reading after = absurd (c
 gave_from : {A : Type 0} (which : Source) (name : List ℕ) (Ends : List ℕ → Result A Refusal → Type 0) (before now : ShelfAt)
     (value : A) → Reads which name Ends before now (Ok value) → Gave which name Ends before now value
 gave_from which name Ends before now value reads = gave_by which name Ends before now value reads.gave reads.reading reads.after
+
+file_of : (which : Source) (name : List ℕ) (Ends : List ℕ → Ending → Type 0) (before now : ShelfAt) (print : Printed) (Holds : List ℕ →
+    Type 0) (holds : (bytes : List ℕ) → Ends bytes (Ok print) → Holds bytes) →
+    Reads which name Ends before now (Ok print) → OfFile which name before.files before.log now.log Holds
+file_of which name Ends before now print Holds holds reads =
+    let from : Gave which name Ends before now print = gave_from which name Ends before now print reads in
+    record { bytes = from.bytes; read = from.read; holds = holds from.bytes from.ends }
 
 module _ (name : List ℕ) (Ends : SheetParts → Ending → Type 0) (before now : ShelfAt) (print : Printed) (Holds : SheetParts →
     Type 0) (holds : (parts : SheetParts) → Ends parts (Ok print) → Holds parts) where
@@ -95,6 +102,7 @@ Fails work text = work.fails text
 plan_holds : (plan : Plan) (before now : ShelfAt) (text : List ℕ) → PlanDoes plan before now (Ok (Done text)) →
     PlanSays Holds plan before.files before.log now.log text
 plan_holds (Alone IsOwn work) before now text does = does.does.sound
+plan_holds (OverFile which name IsOwn work) before now text does = file_of which name _ before now (Done text) _ (λ bytes judges. judges.sound) does
 plan_holds (OverSheet name IsOwn work) before now text does = one_of name _ before now (Done text) _ (λ parts judges. judges.sound) does
 plan_holds (OverBoth sheet which name IsOwn work) before now text does =
     two_of sheet which name _ before now (Done text) _ (λ parts bytes judges. judges.sound) does
@@ -102,6 +110,7 @@ plan_holds (OverBoth sheet which name IsOwn work) before now text does =
 plan_fails : (plan : Plan) (before now : ShelfAt) (text : List ℕ) → PlanDoes plan before now (Ok (JudgedNo text)) →
     PlanSays Fails plan before.files before.log now.log text
 plan_fails (Alone IsOwn work) before now text does = does.does.sound
+plan_fails (OverFile which name IsOwn work) before now text does = file_of which name _ before now (JudgedNo text) _ (λ bytes judges. judges.sound) does
 plan_fails (OverSheet name IsOwn work) before now text does = one_of name _ before now (JudgedNo text) _ (λ parts judges. judges.sound) does
 plan_fails (OverBoth sheet which name IsOwn work) before now text does =
     two_of sheet which name _ before now (JudgedNo text) _ (λ parts bytes judges. judges.sound) does
@@ -215,6 +224,8 @@ none_leaves before now ending none shut = record { files = ap (λ x. x.files) no
 
 plan_leaves : (plan : Plan) (before now : ShelfAt) (ending : Ending) → PlanDoes plan before now ending → Leaves before now ending
 plan_leaves (Alone IsOwn work) before now ending does = none_leaves before now ending does.none (gives_shut work.answer now.is_open ending does.does.gives)
+plan_leaves (OverFile which name IsOwn work) before now ending does =
+    reads_leave which name _ before now ending (λ bytes. (work bytes).answer) (λ bytes judges. judges.gives) does
 plan_leaves (OverSheet name IsOwn work) before now ending does =
     one_leaves name _ (λ parts. (work parts).answer) before now ending (λ parts judges. judges.gives) does
 plan_leaves (OverBoth sheet which name IsOwn work) before now ending does =

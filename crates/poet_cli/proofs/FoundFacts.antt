@@ -16,7 +16,7 @@ use Rattle.poet_cli.specs.Answers.{within, file_in, sheet_by, sheet_in}
 use Rattle.poet_cli.specs.Words.{Asked}
 use Rattle.poet_cli.specs.Readings.{ShelfAt, IsLongerThan, IsFileReading}
 use Rattle.poet_cli.specs.Steps.{Gives, After, Reads, ReadsSheet, NoFile, OneFile, ReadsNext, TwoFiles}
-use Rattle.poet_cli.specs.Program.{Plan, Alone, OverSheet, OverBoth, over_sheet, over_both, plan_of, plan_answer, PlanDoes, answer_of, Does}
+use Rattle.poet_cli.specs.Program.{Plan, Alone, OverFile, OverSheet, OverBoth, over_sheet, over_both, plan_of, plan_answer, PlanDoes, answer_of, Does}
 
 -- why a step was refused, where its answer is this function of the files
 abbrev pub Denied : {A : Type 0} → (Files → Result A Refusal) → Option Files → ℕ → ℕ → Refusal → Type 0
@@ -171,6 +171,8 @@ none_found answer told f g ending gives = given (λ x. answer) answer told f g e
 plan_found : (plan : Plan) (before now : ShelfAt) (ending : Ending) → PlanDoes plan before now ending →
     Found (plan_answer plan) before.files before.faults now.faults ending
 plan_found (Alone IsOwn work) before now ending does = none_found work.answer before.files before.faults now.faults ending does.does.gives
+plan_found (OverFile which name IsOwn work) before now ending does =
+    reads_found which name _ (λ bytes. (work bytes).answer) before now ending (λ bytes judges. judges.gives) does
 plan_found (OverSheet name IsOwn work) before now ending does =
     one_found name _ (λ parts. (work parts).answer) before now ending (λ parts judges. judges.gives) does
 plan_found (OverBoth sheet which name IsOwn work) before now ending does =

@@ -14,8 +14,8 @@ use Rattle.poet_cli.specs.Answers.{sheet_read, sheet_by, sheet_in}
 use Rattle.poet_cli.specs.Words.{Asked}
 use Rattle.poet_cli.specs.Readings.{ShelfAt, IsFileReading}
 use Rattle.poet_cli.specs.Steps.{Gives, After, Reads, ReadsSheet, OneFile, ReadsNext, TwoFiles}
-use Rattle.poet_cli.specs.Refusing.{IsOf, NoText, IsTextOf, MayRefuse, NoSource, IsSheet, IsSheetOr}
-use Rattle.poet_cli.specs.Program.{Plan, Alone, OverSheet, OverBoth, plan_of, PlanDoes, PlanMayFail, MayFail, Does}
+use Rattle.poet_cli.specs.Refusing.{IsOf, NoText, IsTextOf, MayRefuse, NoSource, IsThis, IsSheet, IsSheetOr}
+use Rattle.poet_cli.specs.Program.{Plan, Alone, OverFile, OverSheet, OverBoth, plan_of, PlanDoes, PlanMayFail, MayFail, Does}
 use Rattle.poet_cli.proofs.FoundFacts.{sheet_found}
 
 -- a refusal that is given is want of memory, or the answer
@@ -137,6 +137,9 @@ module _ (IsOwn : Refusal → Type 0) (sheet_name : List ℕ) (which : Source) (
 -- the refusal is one that the command can give
 plan_may : (plan : Plan) (before now : ShelfAt) (refusal : Refusal) → PlanDoes plan before now (Err refusal) → PlanMayFail plan before.files refusal
 plan_may (Alone IsOwn work) before now refusal does = may_of NoSource IsOwn NoText (λ at text. absurd text) refusal does.does.refused
+plan_may (OverFile which name IsOwn work) before now refusal does =
+    may_reads (IsThis which) IsOwn which name _ before now refusal refl
+    (λ bytes judges. may_of (IsThis which) IsOwn (IsTextOf which) (λ at text. text) refusal judges.refused) does
 plan_may (OverSheet name IsOwn work) before now refusal does =
     may_one IsSheet IsOwn refl name _ before now refusal (λ parts judges. may_of IsSheet IsOwn NoText (λ at text. absurd text) refusal judges.refused) does
 plan_may (OverBoth sheet which name IsOwn work) before now refusal does =
@@ -153,6 +156,7 @@ does_may (Some asked) before now (Err refusal) does = plan_may (plan_of asked) b
 -- no command gives the usage line
 plan_no_usage : (plan : Plan) (told : Option Files) → PlanMayFail plan told Usage → ⊥
 plan_no_usage (Alone IsOwn work) told may = may
+plan_no_usage (OverFile which name IsOwn work) told may = may
 plan_no_usage (OverSheet name IsOwn work) told may = may
 plan_no_usage (OverBoth sheet which name IsOwn work) told may = may
 

@@ -17,7 +17,7 @@ use Rattle.poet_cli.specs.Refusals.{limit_of}
 use Rattle.poet_cli.specs.Readings.{ShelfAt, IsFileReading}
 use Rattle.poet_cli.specs.Steps.{Reads, ReadsSheet, OneFile, ReadsNext, TwoFiles}
 use Rattle.poet_cli.specs.Openings.{opened_in, Opens, OpensFront}
-use Rattle.poet_cli.specs.Program.{Plan, Alone, OverSheet, OverBoth, plan_of, plan_files, files_of, PlanDoes, Does}
+use Rattle.poet_cli.specs.Program.{Plan, Alone, OverFile, OverSheet, OverBoth, plan_of, plan_files, files_of, PlanDoes, Does}
 
 opened_append : (xs ys : List Event) → opened_in (xs ++ ys) ≡ opened_in xs ++ opened_in ys
 opened_append [] ys = refl
@@ -92,6 +92,11 @@ none_opens names before now none =
           record { calls = []; since = ap (λ x. x.log) none ∙ sym (append-nil before.log); names_are = refl };
     }
 
+file_opens : (which : Source) (name : List ℕ) (Ends : List ℕ → Ending → Type 0) (before now : ShelfAt) (ending : Ending) →
+    Reads which name Ends before now ending → OpensFront (name ∷ []) before.log now.log
+file_opens which name Ends before now ending reads =
+    record { front = name ∷ []; rest = []; whole = refl; opens = reading_opens which name before now reads.gave reads.reading }
+
 one_opens : (name : List ℕ) (Ends : SheetParts → Ending → Type 0) (before now : ShelfAt) (ending : Ending) →
     OneFile name Ends before now ending → OpensFront (name ∷ []) before.log now.log
 one_opens name Ends before now ending one =
@@ -127,6 +132,7 @@ two_opens sheet_name which name Ends before now ending two = two_opens_by sheet_
 plan_open : (plan : Plan) (before now : ShelfAt) (ending : Ending) → PlanDoes plan before now ending →
     OpensFront (plan_files plan) before.log now.log
 plan_open (Alone IsOwn work) before now ending does = none_opens [] before now does.none
+plan_open (OverFile which name IsOwn work) before now ending does = file_opens which name _ before now ending does
 plan_open (OverSheet name IsOwn work) before now ending does = one_opens name _ before now ending does
 plan_open (OverBoth sheet which name IsOwn work) before now ending does = two_opens sheet which name _ before now ending does
 

@@ -6,6 +6,7 @@ pub mod RunPrinting
 pub mod Answers
 pub mod RunAnswers
 pub mod ExerciseAnswers
+pub mod CurveAnswers
 pub mod Readings
 pub mod Steps
 pub mod Openings

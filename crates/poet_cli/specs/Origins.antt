@@ -9,6 +9,13 @@ use Rattle.poet_cli.specs.declared.refusal.Source.{Source}
 use Rattle.poet_cli.specs.declared.refusal.Source.TheVariants as source
 use Rattle.poet_cli.specs.Readings.{WasRead}
 
+-- the bytes of a file that is no sheet were read, and this holds of them
+pub record OfFile (which : Source) (name : List ℕ) (told : Option Files) (before now : List Event)
+    (Holds : List ℕ → Type 0) : Type 0 where
+  pub bytes : List ℕ
+  pub read : WasRead which name told before now bytes
+  pub holds : Holds bytes
+
 -- the bytes of one file were read and are a sheet, and this holds of it
 pub record OfOneFile (name : List ℕ) (told : Option Files) (before now : List Event)
     (Holds : SheetParts → Type 0) : Type 0 where

@@ -63,12 +63,14 @@ abbrev pub source_word : Source → List ℕ
 source_word source.Sheet = codes "sheet"
 source_word source.Certificate = codes "certificate"
 source_word source.Run = codes "run"
+source_word source.Trace = codes "trace"
 
 -- the longest file of each kind, in bytes
 abbrev pub limit_of : Source → ℕ
 limit_of source.Sheet = 1048576
 limit_of source.Certificate = 67108864
 limit_of source.Run = 67108864
+limit_of source.Trace = 1048576
 
 abbrev pub limit_line : Source → List ℕ
 limit_line which =
@@ -87,7 +89,8 @@ line_of Usage =
     ++ (codes " | audit SHEET RUN"
     ++ (codes " | report SHEET CERT text|json"
     ++ (codes " | exercise S N"
-    ++ codes "\n")))))
+    ++ (codes " | infer FILE HORIZON"
+    ++ codes "\n"))))))
 line_of (Read which) = codes "read failed: " ++ (source_word which ++ codes "\n")
 line_of (Sheet refusal) = sheet_line refusal
 line_of (Text which line) =

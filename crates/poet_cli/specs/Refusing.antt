@@ -52,9 +52,12 @@ MayRefuse IsRead IsOwn Jobs = IsOwn Jobs
 MayRefuse IsRead IsOwn Segments = IsOwn Segments
 MayRefuse IsRead IsOwn Memory = Unit {0}
 
--- no file is read; a sheet is read; and then another file, which is so only where the bytes of the first are a sheet
+-- no file is read; this one; a sheet; and then another file, which is so only where the bytes of the first are a sheet
 abbrev pub NoSource : Source → Type 0
 NoSource which = ⊥
+
+abbrev pub IsThis : Source → Source → Type 0
+IsThis other which = which ≡ other
 
 abbrev pub IsSheet : Source → Type 0
 IsSheet which = which ≡ source.Sheet

@@ -8,7 +8,7 @@ use Rattle.simulated_run.specs.declared.mode.Mode.TheVariants.{Dense, Seed}
 use Rattle.poet_cli.specs.declared.grammar.Form.{Form}
 use Rattle.poet_cli.specs.declared.grammar.Form.TheVariants as forms
 use Rattle.poet_cli.specs.declared.grammar.Command.{Command}
-use Rattle.poet_cli.specs.declared.grammar.Command.TheVariants.{Check, Analyse, Simulate, Audit, Report, Exercise}
+use Rattle.poet_cli.specs.declared.grammar.Command.TheVariants.{Check, Analyse, Simulate, Audit, Report, Exercise, Infer}
 
 -- a command, with its words
 pub data Asked : Type 0 where
@@ -18,6 +18,7 @@ pub data Asked : Type 0 where
   AuditOf : List ℕ → List ℕ → Asked
   ReportOf : List ℕ → List ℕ → Form → Asked
   ExerciseOf : ℕ → ℕ → Asked
+  InferOf : List ℕ → ℕ → Asked
 
 -- a horizon, a number of ticks, a number of tasks, and a seed
 abbrev pub horizon_in : List ℕ → Option ℕ
@@ -59,13 +60,14 @@ abbrev pub seeded_in : List ℕ → Option ℕ → Option ℕ → Option Asked
 seeded_in sheet None ticks = None
 seeded_in sheet (Some seed) ticks = given ticks (SimulateOf sheet (Seed seed))
 
--- check SHEET CERT, analyse SHEET HORIZON, audit SHEET RUN, or exercise S N
+-- check SHEET CERT, analyse SHEET HORIZON, audit SHEET RUN, exercise S N, or infer FILE HORIZON
 unfoldable pub two_words : List ℕ → List ℕ → List ℕ → Option Asked
 two_words command first second =
     if bytes_eq command (codes "check") then Some (CheckOf first second false)
     else (if bytes_eq command (codes "analyse") then given (horizon_in second) (AnalyseOf first)
     else (if bytes_eq command (codes "audit") then Some (AuditOf first second)
-    else (if bytes_eq command (codes "exercise") then exercise_in (seed_in first) (tasks_in second) else None)))
+    else (if bytes_eq command (codes "exercise") then exercise_in (seed_in first) (tasks_in second)
+    else (if bytes_eq command (codes "infer") then given (horizon_in second) (InferOf first) else None))))
 
 -- check SHEET CERT deadlines, simulate SHEET dense N, or report SHEET CERT text|json
 unfoldable pub three_words : List ℕ → List ℕ → List ℕ → List ℕ → Option Asked
@@ -98,6 +100,7 @@ asked_by (Simulate sheet mode ticks) = SimulateOf sheet.now mode ticks
 asked_by (Audit sheet run) = AuditOf sheet.now run.now
 asked_by (Report sheet certificate form) = ReportOf sheet.now certificate.now form
 asked_by (Exercise seed tasks) = ExerciseOf seed tasks
+asked_by (Infer trace horizon) = InferOf trace.now horizon
 
 -- the command is what the words ask for
 abbrev pub IsAsked : Option Asked → Option Command → Type 0
@@ -115,3 +118,4 @@ IsInRange (Simulate sheet mode ticks) = ticks ≤ most_ticks
 IsInRange (Audit sheet run) = Unit {0}
 IsInRange (Report sheet certificate form) = Unit {0}
 IsInRange (Exercise seed tasks) = (1 ≤ tasks) × (tasks ≤ 64)
+IsInRange (Infer trace horizon) = (1 ≤ horizon) × (horizon ≤ greatest_number)

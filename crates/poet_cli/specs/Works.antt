@@ -9,6 +9,7 @@ use Rattle.poet_cli.specs.declared.refusal.Refusal.{Refusal}
 use Rattle.poet_cli.specs.Endings.{Ending, IsSound}
 use Rattle.poet_cli.specs.Answers.{judge_by, analyse_by}
 use Rattle.poet_cli.specs.RunAnswers.{simulate_by, audit_by}
+use Rattle.poet_cli.specs.CurveAnswers.{infer_by, InferenceHolds}
 use Rattle.poet_cli.specs.ExerciseAnswers.{exercise_answer}
 use Rattle.poet_cli.specs.Steps.{Gives}
 use Rattle.poet_cli.specs.Refusing.{IsOf, NoText, IsTextOf, IsNoRefusal, IsPointsRefusal, IsRunRefusal}
@@ -46,6 +47,9 @@ abbrev pub exercise_work : ℕ → ℕ → Work
 exercise_work seed tasks =
     work (exercise_answer seed tasks) (ExerciseIsPrinted seed tasks) Never
 
+abbrev pub infer_work : ℕ → List ℕ → Work
+infer_work horizon bytes = work (infer_by horizon bytes) (InferenceHolds horizon bytes) Never
+
 -- the ending is the answer, or want of memory; what is printed is true; and a refusal is one of these
 pub record Judges (IsText : Source → Type 0) (IsOwn : Refusal → Type 0) (work : Work)
     (ending : Ending) : Type 0 where
@@ -69,3 +73,6 @@ AuditDoes sheet bytes = Judges (IsTextOf source.Run) IsNoRefusal (audit_work she
 
 abbrev pub ExerciseDoes : ℕ → ℕ → Ending → Type 0
 ExerciseDoes seed tasks = Judges NoText IsNoRefusal (exercise_work seed tasks)
+
+abbrev pub InferDoes : ℕ → List ℕ → Ending → Type 0
+InferDoes horizon bytes = Judges (IsTextOf source.Trace) IsNoRefusal (infer_work horizon bytes)

@@ -1,6 +1,6 @@
 //! The word grammar.
 ghost use Rattle.std.specs.Prelude.{◌≡◌, [], ◌∷◌, map, string_bytes, IfSome};
-ghost use Rattle.poet_cli.specs.Words.{AnalyseOf, SimulateOf, ReportOf, horizon_in, ticks_in, tasks_in, seed_in, form_in, given, check_in, exercise_in, seeded_in, two_words, three_words, four_words, IsAsked, IsCommand, IsInRange};
+ghost use Rattle.poet_cli.specs.Words.{AnalyseOf, SimulateOf, ReportOf, InferOf, horizon_in, ticks_in, tasks_in, seed_in, form_in, given, check_in, exercise_in, seeded_in, two_words, three_words, four_words, IsAsked, IsCommand, IsInRange};
 
 use lists::limits::{GREATEST_NUMBER, MOST_TICKS};
 use poet_io::read_number_in;
@@ -48,6 +48,11 @@ pub enum Command<'a> {
     Exercise {
         seed: u64,
         tasks: u32,
+    },
+    /// `infer FILE HORIZON`, with the horizon in ticks, in 1..10^9.
+    Infer {
+        trace: &'a str,
+        horizon: u64,
     },
 }
 
@@ -97,6 +102,14 @@ fn exercise_of<'a>(seed: &str, tasks: &str) -> Option<Command<'a>>
     Some(Command::Exercise { seed, tasks })
 }
 
+fn infer_of<'a>(trace: &'a str, horizon: &str) -> Option<Command<'a>>
+    ensures defined { IsAsked (given (horizon_in horizon.now) (InferOf trace.now)) result }
+    ensures in_range { IfSome result IsInRange }
+{
+    let horizon = read_number_in(horizon.as_bytes(), 1, GREATEST_NUMBER)?;
+    Some(Command::Infer { trace, horizon })
+}
+
 fn dense_of<'a>(sheet: &'a str, ticks: &str) -> Option<Command<'a>>
     ensures defined { IsAsked
         (given (ticks_in ticks.now) (SimulateOf sheet.now Mode.Dense)) result }
@@ -131,7 +144,7 @@ fn report_of<'a>(sheet: &'a str, certificate: &'a str, form: &str) -> Option<Com
     })
 }
 
-/// The commands of two words: `check`, `analyse`, `audit` and `exercise`.
+/// The commands of two words: `check`, `analyse`, `audit`, `exercise` and `infer`.
 #[tactic(auto, unfolding(crate::specs::Words::two_words))]
 fn command_of_two<'a>(command: &str, first: &'a str, second: &'a str) -> Option<Command<'a>>
     ensures defined { IsAsked (two_words command.now first.now second.now) result }
@@ -155,6 +168,9 @@ fn command_of_two<'a>(command: &str, first: &'a str, second: &'a str) -> Option<
     }
     if command == "exercise" {
         return exercise_of(first, second);
+    }
+    if command == "infer" {
+        return infer_of(first, second);
     }
     None
 }

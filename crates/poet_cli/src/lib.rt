@@ -6,6 +6,7 @@ mod analysing;
 mod auditing;
 mod exercising;
 mod grammar;
+mod inferring;
 mod judging;
 mod on_sheet;
 mod printed;

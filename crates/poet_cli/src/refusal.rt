@@ -11,6 +11,7 @@ pub enum Source {
     Sheet,
     Certificate,
     Run,
+    Trace,
 }
 
 impl Source {
@@ -22,6 +23,7 @@ impl Source {
             Source::Sheet => "sheet",
             Source::Certificate => "certificate",
             Source::Run => "run",
+            Source::Trace => "trace",
         }
     }
 
@@ -30,7 +32,7 @@ impl Source {
         ensures { result ≡ limit_of self }
     {
         match self {
-            Source::Sheet => 1_048_576,
+            Source::Sheet | Source::Trace => 1_048_576,
             Source::Certificate | Source::Run => 67_108_864,
         }
     }

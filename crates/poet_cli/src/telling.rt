@@ -14,7 +14,8 @@ const USAGE: &str = "usage: poet check SHEET CERT [deadlines] \
     | simulate SHEET dense N | simulate SHEET seed S N \
     | audit SHEET RUN \
     | report SHEET CERT text|json \
-    | exercise S N\n";
+    | exercise S N \
+    | infer FILE HORIZON\n";
 
 #[tactic(auto, unfolding(crate::specs::Refusals::field_word))]
 fn field_word(field: Field) -> &'static str

@@ -11,6 +11,7 @@ use crate::analysing::analyse_ending;
 use crate::auditing::audit_ending;
 use crate::exercising::exercise_ending;
 use crate::grammar::{Command, command_of};
+use crate::inferring::infer_ending;
 use crate::judging::judge_ending;
 use crate::printed::Ending;
 use crate::refusal::Refusal;
@@ -44,6 +45,7 @@ fn command_ending<H: Shelf>(alloc: Global, command: Command<'_>, shelf: &mut H) 
             form,
         } => judge_ending(alloc, sheet, certificate, View::Report(form), shelf),
         Command::Exercise { seed, tasks } => exercise_ending(alloc, seed, tasks),
+        Command::Infer { trace, horizon } => infer_ending(alloc, trace, horizon, shelf),
     }
 }
 

@@ -80,4 +80,4 @@ pub const SEGMENTED: &str =
     "policy = \"fp\"\n\n[[task]]\nname = \"a\"\ncost = 1000001\ndeadline = 10000000\npriority = 1\nperiod = 10000000\npreemption = { floating = 1 }\n";
 
 pub const USAGE: &str =
-    "usage: poet check SHEET CERT [deadlines] | analyse SHEET HORIZON | simulate SHEET dense N | simulate SHEET seed S N | audit SHEET RUN | report SHEET CERT text|json | exercise S N\n";
+    "usage: poet check SHEET CERT [deadlines] | analyse SHEET HORIZON | simulate SHEET dense N | simulate SHEET seed S N | audit SHEET RUN | report SHEET CERT text|json | exercise S N | infer FILE HORIZON\n";

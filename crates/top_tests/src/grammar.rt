@@ -6,7 +6,7 @@ use std::process::Abort;
 use std::test::Fail;
 use top_cases::files::{ONE_TASK, USAGE};
 
-const UNREAD: [&str; 19] = [
+const UNREAD: [&str; 24] = [
     "check",
     "check s",
     "check x",
@@ -26,6 +26,11 @@ const UNREAD: [&str; 19] = [
     "exercise 7 65",
     "exercise 7 0",
     "exercise -1 1",
+    "infer s",
+    "infer s 0",
+    "infer s 06",
+    "infer s 1000000001",
+    "infer s c 6",
 ];
 
 fn assert_unread(rt: &impl Abort, alloc: Global, words: &Vec<String>) -> Result<(), AllocError> {

@@ -11,6 +11,8 @@ mod checks;
 #[cfg(test)]
 mod commands;
 #[cfg(test)]
+mod curves;
+#[cfg(test)]
 mod grammar;
 #[cfg(test)]
 mod jitters;

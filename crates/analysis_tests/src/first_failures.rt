@@ -19,10 +19,10 @@ policy = 'fp'
 task = [{ name = 'a', cost = 2, deadline = 1, priority = 1, period = 5 }]";
 
 /// A condition, a task and a point.
-type Found = Option<(Cond, Option<u32>, Option<u64>)>;
+pub(crate) type Found = Option<(Cond, Option<u32>, Option<u64>)>;
 
 /// A certificate, whether deadlines are judged, and what is found.
-type Row = (&'static str, bool, Found);
+pub(crate) type Row = (&'static str, bool, Found);
 
 const OF_ONE_TASK: [Row; 8] = [
     (
@@ -165,7 +165,7 @@ fn judged<P: Policy>(
     Ok(failed.map(|it| (it.cond, it.task, it.point)))
 }
 
-fn assert_rows<P: Policy>(
+pub(crate) fn assert_rows<P: Policy>(
     rt: &impl Abort,
     alloc: Global,
     sheet: &str,

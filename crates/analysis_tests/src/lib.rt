@@ -10,3 +10,5 @@ mod meters;
 mod needs;
 #[cfg(test)]
 mod offsets;
+#[cfg(test)]
+mod terms;

@@ -8,6 +8,7 @@ pub mod ReadFacts
 pub mod OrderFacts
 pub mod ReleaseFacts
 pub mod UndoneFacts
+pub mod LinkFacts
 pub mod SegmentFacts
 pub mod PendingFacts
 pub mod PlaceFacts

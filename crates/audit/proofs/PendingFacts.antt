@@ -1,24 +1,24 @@
 -- Which jobs are pending, by those that have come and are not done.
-use Rattle.std.proofs.Common.{◌≡◌, ◌≢◌, ℕ, zero, suc, ◌+◌, ◌<◌, ◌≤◌, ◌==◌, ◌&&◌, ◌||◌, not, Bool, true, false, cond, List, length, get_or, Option}
+use Rattle.std.proofs.Common.{◌≡◌, ◌≢◌, ℕ, zero, suc, ◌+◌, ◌<◌, ◌≤◌, ◌==◌, ◌&&◌, ◌||◌, not, Bool, true, false, cond, List, length, get_or}
 use Rattle.std.proofs.Common.{Some, None, refl, sym, ◌∙◌, ap, subst, inl, inr, arith, add-one, leb, ltb}
 use Rattle.std.specs.BTreeMap.{BTreeMap}
 use Rattle.std.proofs.lemmas.Bool.{cases_Bool, cases_lt, both_ways, or_left, or_right, or_cases, false_from_ne_true, leb-true, leb-false, le-leb}
 use Rattle.std.proofs.lemmas.Bool.{lt-ltb, eqb-true, eq-eqb}
 use Rattle.std.proofs.lemmas.Bool.Decides.{nat_tests}
 use Rattle.task_sheet.specs.SheetParts.{SheetParts}
-use Rattle.task_sheet.specs.declared.tasks.Job.{Job}
 use Rattle.policy.specs.PolicyMeaning.{PolicyMeaning}
 use Rattle.run_model.specs.declared.run.Run.{Run}
 use Rattle.run_model.specs.declared.run.Tick.TheVariants.{Runs}
 use Rattle.run_model.specs.Runs.{job_at, tick_at, service_of, is_done, is_pending}
+use Rattle.run_model.proofs.PendingFacts.{pending_from, pending_to}
 use Rattle.run_model.proofs.ServiceFacts.{step_cases, same_job, service_le}
 use Rattle.urgency.specs.declared.rank.Rank.{Rank}
-use Rattle.urgency.specs.Queues.{IsQueue, with_member, without, IsMostUrgent}
+use Rattle.urgency.specs.Queues.{IsQueue, with_member, without}
 use Rattle.urgency.proofs.QueueFacts.{queue_same}
 use Rattle.audit.specs.declared.arrivals.Arrival.{Arrival}
 use Rattle.audit.specs.ArrivalOrder.{arrival_at, IsReleaseOrder}
 use Rattle.audit.specs.ServiceCounts.{IsServed}
-use Rattle.audit.specs.Pending.{is_among, is_waiting, HasCome, IsReady, IsSomePending}
+use Rattle.audit.specs.Pending.{is_among, is_waiting, HasCome, IsReady, AreDoneTo, AreWaiting, IsSomePending}
 
 -- where a job stands before a place
 record Stands (coming : List Arrival) (i k : ℕ) : Type 0 where
@@ -228,8 +228,82 @@ pub none_waiting : (run : Run) (coming : List Arrival) (t k : ℕ) → is_waitin
 unfolding is_waiting
 none_waiting run coming t k = refl
 
--- the first of the queue tells whether a job is pending
-pub some_pending : (p : PolicyMeaning) (sheet : SheetParts) (run : Run) (t : ℕ) (first : Option ℕ) →
-    IsMostUrgent p sheet run.jobs (λ k. is_pending run k t) first → IsSomePending run t first
-some_pending p sheet run t None h = h
-some_pending p sheet run t (Some f) h = (h.0, h.1)
+-- one place more whose job is done
+pub done_more : (run : Run) (served : List ℕ) (coming : List Arrival) (i : ℕ) → i < length coming →
+    (job_at run (arrival_at coming i).job).cost ≤ get_or served (arrival_at coming i).job 0 →
+    AreDoneTo run served coming i → AreDoneTo run served coming (i + 1)
+done_more run served coming i b here past = record {
+  within = omega arith;
+  done = λ n c. elim (cases_lt n i) [
+    | inl d ↦ past.done n d
+    | inr d ↦
+        let e : i ≡ n = omega arith in
+        subst (λ k. (job_at run (arrival_at coming k).job).cost ≤ get_or served (arrival_at coming k).job 0) e here
+  ];
+}
+
+-- a tick later
+done_later : (run : Run) (t : ℕ) (served after : List ℕ) (coming : List Arrival) (place : ℕ) → t < length run.ticks →
+    IsServed run t served → IsServed run (t + 1) after → IsReleaseOrder run coming → AreDoneTo run served coming place →
+    AreDoneTo run after coming place
+done_later run t served after coming place b s a ordered past = record {
+  within = past.within;
+  done = λ i c.
+      let within = past.within in
+      let listed = (ordered.listed i (omega arith)).listed in
+      let k = (arrival_at coming i).job in
+      omega (arith, past.done i c, s.each k listed, a.each k listed, service_le run k t (t + 1) (omega arith) (omega arith));
+}
+
+pub waiting_more : (run : Run) (t : ℕ) (served after : List ℕ) (coming : List Arrival) (place : ℕ) → t < length run.ticks →
+    AreWaiting run t served coming place → IsServed run (t + 1) after → AreWaiting run (t + 1) after coming place
+waiting_more run t served after coming place b w a = record {
+  counted = a;
+  ordered = w.ordered;
+  done = done_later run t served after coming place b w.counted a w.ordered w.done;
+}
+
+-- before the first tick
+pub waiting_none : (run : Run) (served : List ℕ) (coming : List Arrival) → IsServed run 0 served → IsReleaseOrder run coming →
+    AreWaiting run 0 served coming 0
+waiting_none run served coming s ordered =
+    record { counted = s; ordered = ordered; done = record { within = omega arith; done = λ i b. absurd (omega arith) } }
+
+module _ (run : Run) (t : ℕ) (served : List ℕ) (coming : List Arrival) (place : ℕ) (s : IsServed run t served) (ordered : IsReleaseOrder run coming) where
+  -- the job at a place is pending
+  pub pending_here : place < length coming → (arrival_at coming place).release ≤ t →
+      get_or served (arrival_at coming place).job 0 < (job_at run (arrival_at coming place).job).cost →
+      IsSomePending run t (Some (arrival_at coming place).job)
+  pending_here b released left =
+      let at = ordered.listed place b in
+      let k = (arrival_at coming place).job in (
+        at.listed,
+        pending_to run k t (record { listed = at.listed; released = omega (arith, at.release); not_done = omega (arith, left, s.each k at.listed) }),
+      )
+
+  -- where the jobs before it are done and it is released later, none is
+  pub none_pending : AreDoneTo run served coming place → (place < length coming → t < (arrival_at coming place).release) →
+      IsSomePending run t None
+  none_pending past late k b = false_from_ne_true (is_pending run k t) (λ h.
+      let pending = pending_from run k t h in
+      let at = ordered.complete k b in
+      let within = at.within in
+      let release = (ordered.listed at.place within).release in
+      elim (cases_lt at.place place) [
+        | inl c ↦ omega (
+          arith,
+          past.done at.place c,
+          pending.not_done,
+          s.each k b,
+          ap (λ n. (job_at run n).cost) at.is,
+          ap (λ n. get_or served n 0) at.is,
+        )
+        | inr c ↦ omega (
+          arith,
+          late (omega arith),
+          ordered.ascending place at.place c within,
+          release,
+          ap (λ n. (job_at run n).release) at.is,
+          pending.released,
+        )
+      ])

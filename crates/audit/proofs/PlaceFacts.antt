@@ -1,6 +1,6 @@
 -- The first place at which a rule is broken, by the first of the pending jobs.
-use Rattle.std.proofs.Common.{◌≡◌, ◌≢◌, ℕ, ◌+◌, ◌<◌, ◌&&◌, not, Bool, true, false, length, Option, Some, None, refl, sym, ◌∙◌, ap, below_more}
-use Rattle.std.proofs.lemmas.Bool.{both_ways, and_parts, and_left, not-true}
+use Rattle.std.proofs.Common.{◌≡◌, ◌≢◌, ℕ, ◌+◌, ◌<◌, ◌&&◌, not, Bool, true, false, length, Option, Some, None, refl, sym, ◌∙◌, ap, inl, inr, below_more}
+use Rattle.std.proofs.lemmas.Bool.{cases_Bool, both_ways, and_parts, and_left, not-true}
 use Rattle.lists.specs.Searches.{IsFirstBelow}
 use Rattle.task_sheet.specs.SheetParts.{SheetParts}
 use Rattle.policy.specs.declared.keys.Key.{Key}
@@ -16,8 +16,7 @@ use Rattle.schedule_laws.specs.Compliance.{can_cut}
 use Rattle.schedule_laws.specs.Tests.{is_idle, is_more_urgent, is_idle_broken, is_priority_broken}
 use Rattle.urgency.specs.Queues.{IsMostUrgent}
 use Rattle.urgency.proofs.RankFacts.{urgent_by_rank}
-use Rattle.audit.specs.declared.verdict.Place.{Place}
-use Rattle.audit.specs.TickRules.{IsTick, IsFirstPlace, place_at, is_urgent_by}
+use Rattle.audit.specs.TickRules.{IsTick, IsFirstPlace, IsListed, place_at, is_urgent_by}
 
 -- tests that agree have the same first number
 pub first_like : (p q : ℕ → Bool) (n : ℕ) (r : Option ℕ) → ((k : ℕ) → q k ≡ p k) →
@@ -66,6 +65,14 @@ module _ (p : PolicyMeaning) (m : CutMeaning) (sheet : SheetParts) (run : Run) (
   uncut_is k n runs cut =
       ap (is_more_urgent p m sheet run t n) runs ∙ ap (λ c. c && is_urgent_by p sheet run (p.key sheet (job_at run k)) t n) cut
 
+  -- where no pending job is more urgent, none overtakes
+  pub none_overtakes : (k n : ℕ) (key : Key) → tick_at run t ≡ Runs k → key ≡ p.key sheet (job_at run k) →
+      (is_urgent_by p sheet run key t n ≡ true → ⊥) → is_priority_broken p m sheet run t n ≡ true → ⊥
+  none_overtakes k n key runs is none h = elim (cases_Bool (can_cut m sheet run k t)) [
+    | inl cut ↦ none (sym (urgent_is k n key runs cut is) ∙ h)
+    | inr uncut ↦ both_ways _ (uncut_is k n runs uncut) h
+  ]
+
   no_run_at : (n : ℕ) (x : Tick) → ((k : ℕ) → x ≢ Runs k) → is_more_urgent p m sheet run t n x ≡ false
   no_run_at n Off ne = refl
   no_run_at n Idle ne = refl
@@ -74,6 +81,11 @@ module _ (p : PolicyMeaning) (m : CutMeaning) (sheet : SheetParts) (run : Run) (
   pub no_run_is : (n : ℕ) → ((k : ℕ) → tick_at run t ≢ Runs k) → is_priority_broken p m sheet run t n ≡ false
   unfolding is_priority_broken
   no_run_is n ne = no_run_at n (tick_at run t) ne
+
+pub first_listed : (p : PolicyMeaning) (sheet : SheetParts) (run : Run) (t : ℕ) (first : Option ℕ) →
+    IsMostUrgent p sheet run.jobs (λ k. is_pending run k t) first → IsListed run first
+first_listed p sheet run t None h = tt
+first_listed p sheet run t (Some f) h = h.0
 
 module _ (p : PolicyMeaning) (sheet : SheetParts) (run : Run) (t : ℕ) (key : Key) where
   -- where the most urgent of the pending jobs is not more urgent, none is

@@ -1,9 +1,8 @@
--- The one job that may be inside a segment.
-use Rattle.std.proofs.Common.{◌≡◌, ◌≢◌, ℕ, ◌+◌, ◌<◌, Bool, true, false, length, Option, MatchOption, Some, None, arith, refl, sym, ◌∙◌, ap, subst}
+-- Only the job that ran last may be inside a segment.
+use Rattle.std.proofs.Common.{◌≡◌, ◌≢◌, ℕ, ◌+◌, ◌<◌, Bool, true, false, length, Option, Some, None, arith, refl, sym, ◌∙◌, ap}
 use Rattle.std.proofs.Common.{inl, inr, add-one}
 use Rattle.std.proofs.lemmas.Bool.{cases_eq, both_ways}
-use Rattle.lists.specs.Searches.{OnlyFails}
-use Rattle.lists.proofs.SearchFacts.{only_same}
+use Rattle.lists.specs.Searches.{IsFirstBelow}
 use Rattle.task_sheet.specs.SheetParts.{SheetParts}
 use Rattle.task_sheet.specs.declared.tasks.Task.{Task}
 use Rattle.task_sheet.specs.Sheets.{task_at, IsTask, IsValidSheet}
@@ -18,17 +17,7 @@ use Rattle.schedule_laws.specs.Compliance.{can_cut}
 use Rattle.schedule_laws.specs.Tests.{is_segment_broken}
 use Rattle.schedule_laws.proofs.TestFacts.{segment_from, segment_to}
 use Rattle.audit.specs.Premises.{AreFitting}
-use Rattle.audit.specs.TickRules.{IsTick, Leaves, place_at, IsFirstPlace}
-use Rattle.audit.specs.declared.verdict.Place.{Place}
-
--- where another may not be inside
-others_pass : (test : ℕ → Bool) (n : ℕ) (x : Option ℕ) (j k : ℕ) → OnlyFails test n x → (Leaves (Runs j) x → ⊥) →
-    k < n → k ≢ j → test k ≡ true
-others_pass test n None j k h stays b ne = h k b
-others_pass test n (Some i) j k h stays b ne = elim (cases_eq j i) [
-  | inl e ↦ h.2 k b (λ f. ne (f ∙ sym e))
-  | inr other ↦ absurd (stays other)
-]
+use Rattle.audit.specs.TickRules.{Leaves, OnlyMayFail, last_after}
 
 module _ (m : CutMeaning) (sheet : SheetParts) (run : Run) (t : ℕ) (inside : t < length run.ticks) where
   abbrev cut_at : ℕ → Bool
@@ -43,33 +32,44 @@ module _ (m : CutMeaning) (sheet : SheetParts) (run : Run) (t : ℕ) (inside : t
     | inr gains ↦ absurd (other gains.is)
   ])
 
-  pub inside_same : (x : Option ℕ) → ((k : ℕ) → tick_at run t ≢ Runs k) → OnlyFails cut_at (length run.jobs) x →
-      OnlyFails cut_next (length run.jobs) x
-  inside_same x quiet h = only_same cut_at cut_next (length run.jobs) x (λ k b. same_cut k (quiet k)) h
+  -- a tick that runs no job
+  quiet_next : (x : Option ℕ) → ((k : ℕ) → tick_at run t ≢ Runs k) → OnlyMayFail cut_at (length run.jobs) x →
+      OnlyMayFail cut_next (length run.jobs) x
+  quiet_next None quiet h = λ k b. same_cut k (quiet k) ∙ h k b
+  quiet_next (Some n) quiet h = (h.0, (λ k b ne. same_cut k (quiet k) ∙ h.1 k b ne))
 
-  others_cut : (j k : ℕ) (x : Option ℕ) → tick_at run t ≡ Runs j → (Leaves (tick_at run t) x → ⊥) →
-      OnlyFails cut_at (length run.jobs) x → k < length run.jobs → k ≢ j → cut_next k ≡ true
-  others_cut j k x is stays h b ne =
-      same_cut k (λ r. ne (same_job k j (tick_at run t) r is)) ∙
-      others_pass cut_at (length run.jobs) x j k h (λ l. stays (subst (λ w. Leaves w x) (sym is) l)) b ne
-
-  -- after a tick that runs j, which can be cut then
-  pub inside_cut : (j : ℕ) (x : Option ℕ) → tick_at run t ≡ Runs j → (Leaves (tick_at run t) x → ⊥) →
-      OnlyFails cut_at (length run.jobs) x → cut_next j ≡ true → OnlyFails cut_next (length run.jobs) None
-  inside_cut j x is stays h cut = λ k b. elim (cases_eq k j) [
-    | inl e ↦ ap cut_next e ∙ cut
-    | inr ne ↦ others_cut j k x is stays h b ne
+  -- a tick that runs job j: the others stay as they are
+  others_pass : (j k : ℕ) (x : Option ℕ) → OnlyMayFail cut_at (length run.jobs) x →
+      (Leaves (Runs j) x → (n : ℕ) → n < length run.jobs → cut_at n ≡ true) → k < length run.jobs → k ≢ j → cut_at k ≡ true
+  others_pass j k None h cut b ne = h k b
+  others_pass j k (Some i) h cut b ne = elim (cases_eq j i) [
+    | inl e ↦ h.1 k b (λ f. ne (f ∙ sym e))
+    | inr other ↦ cut other k b
   ]
 
-  pub inside_uncut : (j : ℕ) (x : Option ℕ) → tick_at run t ≡ Runs j → (Leaves (tick_at run t) x → ⊥) →
-      OnlyFails cut_at (length run.jobs) x → j < length run.jobs → cut_next j ≡ false →
-      OnlyFails cut_next (length run.jobs) (Some j)
-  inside_uncut j x is stays h b cut = (b, cut, (λ k c ne. others_cut j k x is stays h c ne))
+  next_by : (x : Option ℕ) (y : Tick) → tick_at run t ≡ y → ((k : ℕ) → y ≡ Runs k → k < length run.jobs) →
+      OnlyMayFail cut_at (length run.jobs) x → (Leaves y x → (k : ℕ) → k < length run.jobs → cut_at k ≡ true) →
+      OnlyMayFail cut_next (length run.jobs) (last_after y x)
+  next_by x Off is named h cut = quiet_next x (λ k r. (let two = sym is ∙ r in cc)) h
+  next_by x Idle is named h cut = quiet_next x (λ k r. (let two = sym is ∙ r in cc)) h
+  next_by x (Runs j) is named h cut = (
+    named j refl,
+    (λ k b ne. same_cut k (λ r. ne (same_job k j (tick_at run t) r is)) ∙ others_pass j k x h cut b ne),
+  )
+
+  -- a tick later
+  pub may_next : (x : Option ℕ) → ((k : ℕ) → tick_at run t ≡ Runs k → k < length run.jobs) →
+      OnlyMayFail cut_at (length run.jobs) x → (Leaves (tick_at run t) x → (k : ℕ) → k < length run.jobs → cut_at k ≡ true) →
+      OnlyMayFail cut_next (length run.jobs) (last_after (tick_at run t) x)
+  may_next x named h cut = next_by x (tick_at run t) refl named h cut
 
   none_left : (y : Tick) → Leaves y None → ⊥
   none_left Off l = l
   none_left Idle l = l
   none_left (Runs k) l = l
+
+  pub leaves_none : Leaves (tick_at run t) None → ⊥
+  leaves_none l = none_left (tick_at run t) l
 
   left_inside : (j : ℕ) (y : Tick) → tick_at run t ≡ y → cut_at j ≡ false → Leaves y (Some j) →
       is_segment_broken m sheet run t j ≡ true
@@ -80,47 +80,45 @@ module _ (m : CutMeaning) (sheet : SheetParts) (run : Run) (t : ℕ) (inside : t
       segment_to m sheet run t j (record { supplied = λ off. (let two = sym e ∙ off in cc); inside = h; other = λ r. l (same_job k j (tick_at run t) e r) })
 
   -- a tick that leaves the job inside a segment
-  pub left_place : (x : Option ℕ) (r : Option Place) → OnlyFails cut_at (length run.jobs) x → Leaves (tick_at run t) x →
-      MatchOption x (r ≡ None) (λ j. r ≡ Some (place_at t j)) →
-      ((s : ℕ) → s < t → IsTick (is_segment_broken m sheet run) run s → ⊥) → IsFirstPlace (is_segment_broken m sheet run) run r
-  left_place None r h l is before = absurd (none_left (tick_at run t) l)
-  left_place (Some j) r h l is before =
-      subst (IsFirstPlace (is_segment_broken m sheet run) run) (sym is) (
-        inside,
-        (
-          h.0,
-          left_inside j (tick_at run t) refl h.1 l,
-          (λ k c passes.
-              let listed = h.0 in
-              both_ways (cut_at k) (segment_from m sheet run t k passes).inside (h.2 k (omega arith) (λ e. omega arith))),
-        ),
-        before,
-      )
+  pub left_first : (j : ℕ) → OnlyMayFail cut_at (length run.jobs) (Some j) → Leaves (tick_at run t) (Some j) → cut_at j ≡ false →
+      IsFirstBelow (λ k. is_segment_broken m sheet run t k ≡ true) (length run.jobs) (Some j)
+  left_first j h l uncut = (
+    h.0,
+    left_inside j (tick_at run t) refl uncut l,
+    (λ k c passes.
+        let listed = h.0 in
+        both_ways (cut_at k) (segment_from m sheet run t k passes).inside (h.1 k (omega arith) (λ e. omega arith))),
+  )
+
+  -- every job can be cut
+  pub all_cut : (j : ℕ) → OnlyMayFail cut_at (length run.jobs) (Some j) → cut_at j ≡ true → (k : ℕ) → k < length run.jobs → cut_at k ≡ true
+  all_cut j h cut k b = elim (cases_eq k j) [ inl e ↦ ap cut_at e ∙ cut | inr ne ↦ h.1 k b ne ]
+
+  pub none_broken : ((k : ℕ) → k < length run.jobs → cut_at k ≡ true) → (k : ℕ) → k < length run.jobs →
+      is_segment_broken m sheet run t k ≡ true → ⊥
+  none_broken cut k b passes = both_ways (cut_at k) (segment_from m sheet run t k passes).inside (cut k b)
 
   leaves_at : (j : ℕ) (y : Tick) → y ≢ Off → y ≢ Runs j → Leaves y (Some j)
   leaves_at j Off on other = absurd (on refl)
   leaves_at j Idle on other = tt
   leaves_at j (Runs k) on other = λ e. other (ap Runs e)
 
-  kept_at : (x : Option ℕ) → OnlyFails cut_at (length run.jobs) x → (Leaves (tick_at run t) x → ⊥) →
-      IsTick (is_segment_broken m sheet run) run t → ⊥
-  kept_at None h stays w = both_ways (cut_at w.job) (segment_from m sheet run t w.job w.passes).inside (h w.job w.listed)
-  kept_at (Some j) h stays w =
-      let broken = segment_from m sheet run t w.job w.passes in
-      elim (cases_eq w.job j) [
+  -- a tick that leaves no job
+  pub kept_none : (x : Option ℕ) → OnlyMayFail cut_at (length run.jobs) x → (Leaves (tick_at run t) x → ⊥) → (k : ℕ) →
+      k < length run.jobs → is_segment_broken m sheet run t k ≡ true → ⊥
+  kept_none None h stays k b passes = none_broken h k b passes
+  kept_none (Some j) h stays k b passes =
+      let broken = segment_from m sheet run t k passes in
+      elim (cases_eq k j) [
         | inl e ↦ stays (leaves_at j (tick_at run t) broken.supplied (λ r. broken.other (r ∙ ap Runs (sym e))))
-        | inr ne ↦ both_ways (cut_at w.job) broken.inside (h.2 w.job w.listed ne)
+        | inr ne ↦ both_ways (cut_at k) broken.inside (h.1 k b ne)
       ]
-
-  pub left_kept : (x : Option ℕ) → OnlyFails cut_at (length run.jobs) x → (Leaves (tick_at run t) x → ⊥) →
-      IsTick (is_segment_broken m sheet run) run t → ⊥
-  left_kept x h stays w = kept_at x h stays w
 
 -- before the first tick every job can be cut
 pub inside_none : (m : CutMeaning) (sheet : SheetParts) (run : Run) →
     ((task : Task) → IsTask task → m.serves task ≡ true → IsLawfulCut m task) → IsValidSheet sheet →
     Serves m sheet → AreFitting m sheet run →
-    OnlyFails (λ k. can_cut m sheet run k 0) (length run.jobs) None
+    OnlyMayFail (λ k. can_cut m sheet run k 0) (length run.jobs) None
 inside_none m sheet run lawful ok served fitting k b =
     let job = fitting k b in
     let o = (job_at run k).task in

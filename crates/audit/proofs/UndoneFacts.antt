@@ -10,7 +10,7 @@ use Rattle.audit.specs.declared.arrivals.Arrival.{Arrival}
 use Rattle.audit.specs.ServiceCounts.{IsServed}
 use Rattle.audit.specs.TickRules.{IsListed}
 use Rattle.audit.specs.ArrivalOrder.{arrival_at, IsOrder}
-use Rattle.audit.specs.UndoneJobs.{IsLeft, IsFront, AreDoneBefore, ArePlaces, AreBelow, IsReadyAt, AreUndoneAt}
+use Rattle.audit.specs.UndoneJobs.{IsLeft, IsFront, AreDoneBefore, ArePlaces, AreBelow, IsNextPlace, AreNextPlaces, IsReadyAt, AreUndoneAt}
 
 -- a place whose job is not left
 pub past_more : (run : Run) (served : List ℕ) (order : List Arrival) (o i : ℕ) → i < length order →
@@ -21,6 +21,21 @@ past_more run served order o i b done past = record {
   done = λ n c. elim (cases_lt n i) [
     | inl d ↦ past.done n d
     | inr d ↦ let e : i ≡ n = omega arith in subst (λ k. IsLeft run served o (arrival_at order k).job → ⊥) e done
+  ];
+}
+
+-- over the places of other tasks
+pub past_jump : (run : Run) (served : List ℕ) (order : List Arrival) (o i next : ℕ) → IsNextPlace run order i next →
+    (job_at run (arrival_at order i).job).task ≡ o → (IsLeft run served o (arrival_at order i).job → ⊥) →
+    AreDoneBefore run served order o i → AreDoneBefore run served order o next
+past_jump run served order o i next at is done past = record {
+  within = at.within;
+  done = λ n c left. elim (cases_lt n i) [
+    | inl d ↦ past.done n d left
+    | inr d ↦ elim (cases_lt i n) [
+      | inl l ↦ at.between n l c (left.task ∙ sym is)
+      | inr l ↦ let e : n ≡ i = omega arith in done (subst (λ k. IsLeft run served o (arrival_at order k).job) e left)
+    ]
   ];
 }
 
@@ -75,16 +90,17 @@ left_before run t served after o k b s a left = record {
 }
 
 -- a tick later
-pub undone_more : (run : Run) (t : ℕ) (served after : List ℕ) (order : List Arrival) (places : List ℕ) →
-    t < length run.ticks → AreUndoneAt run t served order places → IsServed run (t + 1) after →
-    AreUndoneAt run (t + 1) after order places
-undone_more run t served after order places b p a =
+pub undone_more : (run : Run) (t : ℕ) (served after : List ℕ) (order : List Arrival) (nexts places : List ℕ) →
+    t < length run.ticks → AreUndoneAt run t served order nexts places → IsServed run (t + 1) after →
+    AreUndoneAt run (t + 1) after order nexts places
+undone_more run t served after order nexts places b p a =
     let ready = p.ready in
     record {
       counted = a;
       ready = record {
         count = a.count;
         ordered = ready.ordered;
+        linked = ready.linked;
         tasks = ready.tasks;
         past = λ o c. record {
           within = (ready.past o c).within;
@@ -95,16 +111,17 @@ undone_more run t served after order places b p a =
     }
 
 -- before the first tick
-pub undone_none : (run : Run) (tasks : ℕ) (served : List ℕ) (order : List Arrival) (places : List ℕ) →
-    AreBelow run tasks → IsServed run 0 served → IsOrder run order → places ≡ replicate tasks 0 →
-    AreUndoneAt run 0 served order places
-undone_none run tasks served order places below s ordered is =
+pub undone_none : (run : Run) (tasks : ℕ) (served : List ℕ) (order : List Arrival) (nexts places : List ℕ) →
+    AreBelow run tasks → IsServed run 0 served → IsOrder run order → AreNextPlaces run order nexts → places ≡ replicate tasks 0 →
+    AreUndoneAt run 0 served order nexts places
+undone_none run tasks served order nexts places below s ordered linked is =
     let all : length places ≡ tasks = ap length is ∙ length-replicate {A = ℕ} tasks 0 in
     record {
       counted = s;
       ready = record {
         count = s.count;
         ordered = ordered;
+        linked = linked;
         tasks = subst (AreBelow run) (sym all) below;
         past = λ o b.
             let at : get_or places o 0 ≡ 0 = ap (λ (v : List ℕ). get_or v o 0) is ∙ get_or-replicate {A = ℕ} tasks o 0 0 (omega arith) in
@@ -113,11 +130,11 @@ undone_none run tasks served order places below s ordered is =
     }
 
 -- with other places
-pub ready_with : (run : Run) (served : List ℕ) (order : List Arrival) (places others : List ℕ) →
-    length others ≡ length places → IsReadyAt run served order places → ArePlaces run served order others →
-    IsReadyAt run served order others
-ready_with run served order places others same ready past =
-    record { count = ready.count; ordered = ready.ordered; tasks = subst (AreBelow run) (sym same) ready.tasks; past = past }
+pub ready_with : (run : Run) (served : List ℕ) (order : List Arrival) (nexts places others : List ℕ) →
+    length others ≡ length places → IsReadyAt run served order nexts places → ArePlaces run served order others →
+    IsReadyAt run served order nexts others
+ready_with run served order nexts places others same ready past =
+    record { count = ready.count; ordered = ready.ordered; linked = ready.linked; tasks = subst (AreBelow run) (sym same) ready.tasks; past = past }
 
 pub front_listed : (run : Run) (served : List ℕ) (o : ℕ) (front : Option ℕ) → IsFront run served o front →
     IsListed run front

@@ -29,6 +29,17 @@ Leaves Idle (Some j) = Unit {0}
 Leaves (Runs k) None = ⊥
 Leaves (Runs k) (Some j) = k ≢ j
 
+-- the job that ran last, after one tick more
+abbrev pub last_after : Tick → Option ℕ → Option ℕ
+last_after Off last = last
+last_after Idle last = last
+last_after (Runs k) last = Some k
+
+-- of the numbers below a count at most this one, if any, fails the test
+abbrev pub OnlyMayFail : (ℕ → Bool) → ℕ → Option ℕ → Type 0
+OnlyMayFail test count None = (k : ℕ) → k < count → test k ≡ true
+OnlyMayFail test count (Some n) = (n < count) × ((k : ℕ) → k < count → k ≢ n → test k ≡ true)
+
 -- some job passes the test at tick t
 pub record IsTick (test : ℕ → ℕ → Bool) (run : Run) (t : ℕ) : Type 0 where
   pub job : ℕ

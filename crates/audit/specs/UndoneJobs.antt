@@ -1,5 +1,5 @@
 -- The first job of each task that is not done.
-use Rattle.std.specs.Prelude.{◌≡◌, ℕ, ◌<◌, ◌≤◌, List, length, slice_index_or, Option, Some, None}
+use Rattle.std.specs.Prelude.{◌≡◌, ◌≢◌, ℕ, ◌<◌, ◌≤◌, List, length, slice_index_or, Option, Some, None}
 use Rattle.run_model.specs.declared.run.Run.{Run}
 use Rattle.run_model.specs.Runs.{job_at}
 use Rattle.audit.specs.declared.arrivals.Arrival.{Arrival}
@@ -36,20 +36,45 @@ ArePlaces run served order places = (o : ℕ) → o < length places → AreDoneB
 abbrev pub AreBelow : Run → ℕ → Type 0
 AreBelow run tasks = (k : ℕ) → k < length run.jobs → (job_at run k).task < tasks
 
+-- behind place i and before the next one no job of its task stands
+pub record IsNextPlace (run : Run) (order : List Arrival) (i next : ℕ) : Type 0 where
+  pub later : i < next
+  pub within : next ≤ length order
+  pub between : (j : ℕ) → i < j → j < next → (job_at run (arrival_at order j).job).task ≢ (job_at run (arrival_at order i).job).task
+
+-- for each place the next one of the same task
+pub record AreNextPlaces (run : Run) (order : List Arrival) (nexts : List ℕ) : Type 0 where
+  pub count : length nexts ≡ length order
+  pub each : (i : ℕ) → i < length order → IsNextPlace run order i (slice_index_or nexts i 0)
+
+-- from place i on the first one of task o
+pub record IsFirstPlaceOf (run : Run) (order : List Arrival) (i o first : ℕ) : Type 0 where
+  pub from : i ≤ first
+  pub within : first ≤ length order
+  pub between : (j : ℕ) → i ≤ j → j < first → (job_at run (arrival_at order j).job).task ≢ o
+
+-- the places from i on know the next ones, and each task the first of them
+pub record AreLinked (run : Run) (order : List Arrival) (i : ℕ) (firsts nexts : List ℕ) : Type 0 where
+  pub count : length nexts ≡ length order
+  pub tasks : AreBelow run (length firsts)
+  pub heads : (o : ℕ) → o < length firsts → IsFirstPlaceOf run order i o (slice_index_or firsts o 0)
+  pub links : (p : ℕ) → i ≤ p → p < length order → IsNextPlace run order p (slice_index_or nexts p 0)
+
 -- for each task a place, by the service of the jobs
-pub record IsReadyAt (run : Run) (served : List ℕ) (order : List Arrival) (places : List ℕ) : Type 0 where
+pub record IsReadyAt (run : Run) (served : List ℕ) (order : List Arrival) (nexts places : List ℕ) : Type 0 where
   pub count : length served ≡ length run.jobs
   pub ordered : IsOrder run order
+  pub linked : AreNextPlaces run order nexts
   pub tasks : AreBelow run (length places)
   pub past : ArePlaces run served order places
 
 abbrev pub IsReady : Run → UndoneJobs → Type 0
-IsReady run p = IsReadyAt run p.served.items p.order.items p.places.items
+IsReady run p = IsReadyAt run p.served.items p.order.items p.nexts.items p.places.items
 
 -- how far the run has come at t
-pub record AreUndoneAt (run : Run) (t : ℕ) (served : List ℕ) (order : List Arrival) (places : List ℕ) : Type 0 where
+pub record AreUndoneAt (run : Run) (t : ℕ) (served : List ℕ) (order : List Arrival) (nexts places : List ℕ) : Type 0 where
   pub counted : IsServed run t served
-  pub ready : IsReadyAt run served order places
+  pub ready : IsReadyAt run served order nexts places
 
 abbrev pub AreUndone : Run → ℕ → UndoneJobs → Type 0
-AreUndone run t p = AreUndoneAt run t p.served.items p.order.items p.places.items
+AreUndone run t p = AreUndoneAt run t p.served.items p.order.items p.nexts.items p.places.items

@@ -19,7 +19,7 @@ fn listed_arrivals(alloc: Global, run: &Run) -> Result<Vec<Arrival>, AllocError>
     requires { IsSmall run.now }
     ensures { IfOk result (λ v. AreFirstArrivals run.now (length run.now.jobs) v.items) }
 {
-    let mut arrivals = Vec::new(alloc);
+    let mut arrivals = Vec::with_capacity(alloc, run.jobs.len())?;
     for k in 0..run.jobs.len() as u32 {
         let job = &run.jobs.as_slice()[k as usize];
         arrivals.push(Arrival {

@@ -18,7 +18,7 @@ fn sums_of(alloc: Global, segments: &[u64]) -> Result<Vec<u64>, AllocError>
     requires { sum segments.now ≤ greatest_number }
     ensures { IfOk result (λ v. v.items ≡ sums_from 0 segments.now) }
 {
-    let mut sums = Vec::new(alloc);
+    let mut sums = Vec::with_capacity(alloc, segments.len() + 1)?;
     let mut total = 0;
     for segment in segments {
         sums.push(total)?;
@@ -40,7 +40,7 @@ pub fn cut_sums<M: Tabled>(
 {
     // for the proof: the sheet is valid
     let _valid = sheet.len();
-    let mut sums = Vec::new(alloc);
+    let mut sums = Vec::with_capacity(alloc, run.jobs.len())?;
     for job in run.jobs.as_slice() {
         sums.push(sums_of(alloc, job.segs.as_slice())?)?;
     }

@@ -2,18 +2,16 @@
 ghost use Rattle.std.specs.Prelude.{◌≡◌, ◌<◌, IfOk, length, true};
 ghost use Rattle.lists.specs.Searches.{IsFirstBelow};
 ghost use Rattle.run_model.specs.Runs.{is_pending as is_pending_by};
-ghost use Rattle.schedule_laws.specs.Tests.{AreOf, is_idle_broken};
+ghost use Rattle.schedule_laws.specs.Tests.{is_idle_broken};
 ghost use Rattle.audit.specs.Pending.{IsSomePending};
 ghost use Rattle.audit.specs.TickRules.{IsFirstPlace};
 ghost use Rattle.audit.specs.Premises.{IsSmall};
 ghost use Rattle.audit.specs.ServiceCounts.{IsServed};
 
-use crate::progress::Progress;
 use crate::verdict::Place;
-use policy::Policy;
+use crate::waiting::Waiting;
 use run_model::{Run, Tick};
 use std::alloc::{AllocError, Global};
-use task_sheet::Sheet;
 
 /// Whether job `k` is pending at tick `t`, by its service.
 #[tactic(auto, using(schedule_laws::proofs::TestFacts::pending_is))]
@@ -58,23 +56,17 @@ fn idle_job(run: &Run, served: &[u64], first: Option<u32>, t: u64) -> Option<u32
 }
 
 /// The first idle tick at which some job is pending, and the least such job.
-pub fn idle_place<P: Policy>(
-    alloc: Global,
-    sheet: &Sheet,
-    run: &Run,
-) -> Result<Option<Place>, AllocError>
-    requires small { IsSmall run.now }
-    requires tasks { AreOf sheet.now run.now }
+pub fn idle_place(alloc: Global, run: &Run) -> Result<Option<Place>, AllocError>
+    requires { IsSmall run.now }
     ensures { IfOk result (IsFirstPlace (is_idle_broken run.now) run.now) }
 {
-    let mut progress = Progress::new(alloc, run)?;
+    let mut waiting = Waiting::new(alloc, run)?;
     for t in 0..run.ticks.len() as u64 {
-        progress.let_in::<P>(sheet, run, t)?;
-        let first = progress.first::<P>(sheet, run, t);
-        if let Some(job) = idle_job(run, &progress.served, first, t) {
+        let first = waiting.some_pending(run, t);
+        if let Some(job) = idle_job(run, &waiting.served, first, t) {
             return Ok(Some(Place { tick: t, job }));
         }
-        progress.serve::<P>(sheet, run, t);
+        waiting.serve(run, t);
     }
     Ok(None)
 }

@@ -51,7 +51,7 @@ fn first_broken<P: Policy, M: Tabled>(
     if shortage.is_some() {
         return Ok(shortage);
     }
-    let idling = first_idling::<P>(alloc, sheet, run)?;
+    let idling = first_idling(alloc, run)?;
     if idling.is_some() {
         return Ok(idling);
     }

@@ -17,6 +17,7 @@ mod ticks;
 mod undone;
 mod validity;
 mod verdict;
+mod waiting;
 
 pub use judging::audit;
 pub use laws::verdict_decides;

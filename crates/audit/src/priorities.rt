@@ -1,5 +1,6 @@
 //! The rule on priorities.
-ghost use Rattle.std.specs.Prelude.{◌≡◌, ◌<◌, ◌&&◌, IfOk, length, not, true};
+ghost use Rattle.std.specs.Prelude.{◌≡◌, ◌<◌, ◌&&◌, ℕ, IfOk, None, length, not, true};
+ghost use Rattle.std.specs.Bool.{OnFalse};
 ghost use Rattle.lists.specs.Searches.{IsFirstBelow};
 ghost use Rattle.policy.specs.Keys.{key_le};
 ghost use Rattle.preemption.specs.CutLaws.{Serves};
@@ -7,7 +8,7 @@ ghost use Rattle.run_model.specs.Runs.{is_pending as is_pending_by, job_at};
 ghost use Rattle.schedule_laws.specs.Tests.{AreOf, is_priority_broken};
 ghost use Rattle.urgency.specs.Queues.{IsMostUrgent};
 ghost use Rattle.audit.specs.CutSums.{AreSums};
-ghost use Rattle.audit.specs.TickRules.{IsFirstPlace, is_urgent_by};
+ghost use Rattle.audit.specs.TickRules.{IsFirstPlace, IsListed, is_urgent_by};
 ghost use Rattle.audit.specs.Premises.{IsSmall};
 ghost use Rattle.audit.specs.ServiceCounts.{IsServed};
 
@@ -64,33 +65,20 @@ fn first_urgent<P: Policy>(
     None
 }
 
-/// The least job that is pending at tick `t` and more urgent than the key, where `first` is the most
-/// urgent of the pending ones.
-fn urgent_job<P: Policy>(
-    sheet: &Sheet,
-    run: &Run,
-    served: &[u64],
-    first: Option<u32>,
-    key: Key,
-    t: u64,
-) -> Option<u32>
+/// Whether some job is more urgent than the key, where `first` is the most urgent one that is pending
+/// at a tick.
+fn has_urgent<P: Policy>(sheet: &Sheet, run: &Run, first: Option<u32>, key: Key) -> bool
     requires small { IsSmall run.now }
     requires tasks { AreOf sheet.now run.now }
-    requires served { IsServed run.now t served.now }
-    requires first { IsMostUrgent P.meaning sheet.now run.now.jobs
-        (λ k. is_pending_by run.now k t) first }
-    ensures { IsFirstBelow (λ k. is_urgent_by P.meaning sheet.now run.now key t k ≡ true)
-        (length run.now.jobs) result }
+    requires first { IsListed run.now first }
+    ensures { (t : ℕ) → IsMostUrgent P.meaning sheet.now run.now.jobs
+        (λ k. is_pending_by run.now k t) first → OnFalse result
+        (IsFirstBelow (λ k. is_urgent_by P.meaning sheet.now run.now key t k ≡ true)
+        (length run.now.jobs) None) }
 {
     match first {
-        Some(k) => {
-            if is_more_urgent::<P>(sheet, run, key, k) {
-                first_urgent::<P>(sheet, run, served, key, t)
-            } else {
-                None
-            }
-        }
-        None => None,
+        Some(k) => is_more_urgent::<P>(sheet, run, key, k),
+        None => false,
     }
 }
 
@@ -117,11 +105,14 @@ fn overtaken_job<P: Policy, M: Tabled>(
     let Tick::Runs(k) = run.ticks.as_slice()[t as usize] else {
         return None;
     };
+    let key = P::key(sheet, &run.jobs.as_slice()[k as usize]);
+    if !has_urgent::<P>(sheet, run, first, key) {
+        return None;
+    }
     if !can_cut_job::<M>(sheet, run, sums, k, served[k as usize]) {
         return None;
     }
-    let key = P::key(sheet, &run.jobs.as_slice()[k as usize]);
-    urgent_job::<P>(sheet, run, served, first, key, t)
+    first_urgent::<P>(sheet, run, served, key, t)
 }
 
 /// The first tick that runs, where it can be cut, a job less urgent than a pending one, and the least

@@ -15,7 +15,7 @@ use std::alloc::{AllocError, Global};
 use task_sheet::Sheet;
 
 /// The task of job `k`.
-fn task_of(run: &Run, k: u32) -> usize
+pub fn task_of(run: &Run, k: u32) -> usize
     requires { k < length run.now.jobs }
     ensures { result ≡ (job_at run.now k).task }
 {

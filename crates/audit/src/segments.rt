@@ -1,12 +1,12 @@
 //! The rule on segments.
-ghost use Rattle.std.specs.Prelude.{◌≡◌, ◌+◌, ◌<◌, ◌↔◌, IfOk, IsTrue, MatchOption, length, None, Some};
-ghost use Rattle.lists.specs.Searches.{OnlyFails};
+ghost use Rattle.std.specs.Prelude.{◌≡◌, ◌<◌, ◌↔◌, ℕ, IfOk, IsTrue, None, length, true};
+ghost use Rattle.lists.specs.Searches.{IsFirstBelow};
 ghost use Rattle.preemption.specs.CutLaws.{Serves};
 ghost use Rattle.run_model.specs.Runs.{tick_at};
 ghost use Rattle.schedule_laws.specs.Compliance.{can_cut};
 ghost use Rattle.schedule_laws.specs.Tests.{AreOf, is_segment_broken};
 ghost use Rattle.audit.specs.CutSums.{AreSums};
-ghost use Rattle.audit.specs.TickRules.{Leaves, IsFirstPlace, place_at};
+ghost use Rattle.audit.specs.TickRules.{Leaves, IsFirstPlace, OnlyMayFail, last_after};
 ghost use Rattle.audit.specs.Premises.{IsSmall, AreFitting};
 ghost use Rattle.audit.specs.ServiceCounts.{IsServed};
 
@@ -29,37 +29,32 @@ fn leaves(tick: Tick, inside: Option<u32>) -> bool
     }
 }
 
-/// The place of the job at tick `t`, if there is one.
-fn place_of(job: Option<u32>, t: u64) -> Option<Place>
-    ensures { MatchOption job (result ≡ None) (λ k. result ≡ Some (place_at t k)) }
-{
-    let job = job?;
-    Some(Place { tick: t, job })
-}
-
-/// The job inside a segment after tick `t`, where at most this one was inside before.
-fn inside_after<M: Tabled>(
+/// The job inside a segment that tick `t` leaves, where at most the one that ran last is inside.
+fn left_job<M: Tabled>(
     sheet: &Sheet,
     run: &Run,
     sums: &[Vec<u64>],
     served: &[u64],
-    inside: Option<u32>,
+    last: Option<u32>,
     t: u64,
 ) -> Option<u32>
-    requires small { IsSmall run.now }
     requires tasks { AreOf sheet.now run.now }
     requires kind { Serves M.cuts sheet.now }
     requires sums { AreSums run.now sums.now }
     requires tick { t < length run.now.ticks }
-    requires served { IsServed run.now (t + 1) served.now }
-    requires inside { OnlyFails (λ k. can_cut M.cuts sheet.now run.now k t)
-        (length run.now.jobs) inside }
-    requires stays { Leaves (tick_at run.now t) inside → ⊥ }
-    ensures { OnlyFails (λ k. can_cut M.cuts sheet.now run.now k (t + 1))
+    requires served { IsServed run.now t served.now }
+    requires last { OnlyMayFail (λ k. can_cut M.cuts sheet.now run.now k t)
+        (length run.now.jobs) last }
+    ensures first { IsFirstBelow (λ k. is_segment_broken M.cuts sheet.now run.now t k ≡ true)
         (length run.now.jobs) result }
+    ensures cut { result ≡ None → Leaves (tick_at run.now t) last → (k : ℕ) →
+        k < length run.now.jobs → can_cut M.cuts sheet.now run.now k t ≡ true }
 {
-    let Tick::Runs(k) = run.ticks.as_slice()[t as usize] else {
-        return inside;
+    if !leaves(run.ticks.as_slice()[t as usize], last) {
+        return None;
+    }
+    let Some(k) = last else {
+        return None;
     };
     if can_cut_job::<M>(sheet, run, sums, k, served[k as usize]) {
         None
@@ -68,7 +63,19 @@ fn inside_after<M: Tabled>(
     }
 }
 
+/// The job that ran last, after this tick too.
+fn last_after(tick: Tick, last: Option<u32>) -> Option<u32>
+    ensures { result ≡ last_after tick last }
+{
+    match tick {
+        Tick::Runs(k) => Some(k),
+        Tick::Off | Tick::Idle => last,
+    }
+}
+
 /// The first supplied tick that does not run a job inside a segment, and that job.
+///
+/// Only the job that ran last may be inside one, and only where a tick leaves it that is looked up.
 pub fn segment_place<M: Tabled>(
     alloc: Global,
     sheet: &Sheet,
@@ -84,13 +91,13 @@ pub fn segment_place<M: Tabled>(
     // for the proof: the sheet is valid
     let _valid = sheet.len();
     let mut served = no_service(alloc, run)?;
-    let mut inside = None;
+    let mut last = None;
     for t in 0..run.ticks.len() as u64 {
-        if leaves(run.ticks.as_slice()[t as usize], inside) {
-            return Ok(place_of(inside, t));
+        if let Some(job) = left_job::<M>(sheet, run, sums, &served, last, t) {
+            return Ok(Some(Place { tick: t, job }));
         }
         serve(run, &mut served, t);
-        inside = inside_after::<M>(sheet, run, sums, &served, inside, t);
+        last = last_after(run.ticks.as_slice()[t as usize], last);
     }
     Ok(None)
 }

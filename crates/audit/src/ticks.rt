@@ -69,16 +69,11 @@ fn fault_of(rule: Rule, place: Option<Place>) -> Option<Fault>
 }
 
 /// The first idle tick at which some job is pending.
-pub fn first_idling<P: Policy>(
-    alloc: Global,
-    sheet: &Sheet,
-    run: &Run,
-) -> Result<Option<Fault>, AllocError>
-    requires small { IsSmall run.now }
-    requires tasks { AreOf sheet.now run.now }
+pub fn first_idling(alloc: Global, run: &Run) -> Result<Option<Fault>, AllocError>
+    requires { IsSmall run.now }
     ensures { IfOk result (λ f. f ≡ idle_in run.now) }
 {
-    let place = idle_place::<P>(alloc, sheet, run)?;
+    let place = idle_place(alloc, run)?;
     Ok(fault_of(Rule::Idle, place))
 }
 

@@ -9,4 +9,6 @@ mod bounds;
 #[cfg(test)]
 mod laws;
 #[cfg(test)]
+mod pieces;
+#[cfg(test)]
 mod points;

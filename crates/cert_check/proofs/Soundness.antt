@@ -80,7 +80,7 @@ module _ (p : PolicyMeaning) (m : CutMeaning) (sbf : ℕ → ℕ) where
     judged_holds cert within None none = sound p m sbf sheet deadlines cert law means valid served within none
     judged_holds cert within (Some failed) e = tt
 
-    read_holds : (bytes : List ℕ) (r : Result Cert TextRefusal) → IsReading cert_format bytes r →
+    pub read_holds : (bytes : List ℕ) (r : Result Cert TextRefusal) → IsReading cert_format bytes r →
         IsBoundedBy p m sbf sheet deadlines (verdict_by (failed_of p m sbf sheet deadlines) r)
     read_holds bytes (Ok cert) parses = judged_holds cert parses.within (failed_of p m sbf sheet deadlines cert) refl
     read_holds bytes (Err (Line line)) r = tt

@@ -1,20 +1,7 @@
-//! The verdict over the bytes of a certificate.
-ghost use Rattle.std.specs.Prelude.{◌≡◌, IfOk, None};
-ghost use Rattle.certificate.specs.Text.{IsWithinGrammar};
-ghost use Rattle.preemption.specs.CutLaws.{Serves};
-ghost use Rattle.conditions.specs.Conditions.{failed_of};
-ghost use Rattle.cert_check.specs.Verdicts.{bounds_of, cert_verdict_of, AreSound, IsVerdict, IsBoundedBy};
+//! The verdict on a certificate.
 
-use abstract_rta::points_bound;
-use certificate::{Cert, read_cert};
-use conditions::{Failed, failed_means, first_failed};
+use conditions::Failed;
 use lists::Items;
-use poet_io::TextRefusal;
-use policy::Policy;
-use preemption::Preemption;
-use std::alloc::{AllocError, Global};
-use supply::Supply;
-use task_sheet::Sheet;
 
 /// What the bytes of a certificate are worth, for a sheet.
 #[derive(Debug, Drop, PartialEq)]
@@ -25,76 +12,4 @@ pub enum Verdict {
     Text { line: u64 },
     /// The first condition that fails.
     Refused(Failed),
-}
-
-/// The bounds of a certificate, in the tasks' order.
-fn bounds(alloc: Global, cert: &Cert) -> Result<Items<u64>, AllocError>
-    ensures { IfOk result (λ bounds. bounds ≡ bounds_of cert.now) }
-{
-    let bounds = cert
-        .entries
-        .as_slice()
-        .iter()
-        .map(|entry| entry.bound)
-        .collect(alloc)?;
-    Ok(Items::new(bounds))
-}
-
-/// The first condition that a certificate fails to meet for a sheet, with `deadlines` also that each
-/// bound is at most its task's deadline.
-///
-/// Where there is none, the response times of every run that complies with the sheet are bounded by
-/// the certificate's bounds, and with `deadlines` by the tasks' deadlines. Its counts and numbers must
-/// be within the grammar.
-pub fn judge_cert<P: Policy, M: Preemption, S: Supply>(
-    sheet: &Sheet,
-    supply: &S,
-    cert: &Cert,
-    deadlines: bool,
-) -> Option<Failed>
-    requires fits { IsWithinGrammar cert.now }
-    requires served { Serves M.cuts sheet.now }
-    ensures defined { result ≡ failed_of P.meaning M.cuts (S.sbf supply.now) sheet.now deadlines
-        cert.now }
-    ensures bounded { result ≡ None →
-        AreSound P.meaning M.cuts (S.sbf supply.now) sheet.now deadlines (bounds_of cert.now) }
-{
-    supply.known();
-    failed_means::<P, M, S>();
-    points_bound::<P, M, S>();
-    // for the proof: the sheet is valid
-    let _valid = sheet.len();
-    first_failed::<P, M, S>(sheet, supply, cert, deadlines)
-}
-
-/// Judges the text of a certificate for a sheet, and with `deadlines` also that each bound is at
-/// most its task's deadline.
-///
-/// Where the verdict is `Accepted`, the response times of every run that complies with the sheet
-/// are bounded by the bounds, and with `deadlines` by the tasks' deadlines.
-#[tactic(auto, unfolding(crate::specs::Verdicts::cert_verdict_of))]
-pub fn check_cert<P: Policy, M: Preemption, S: Supply>(
-    alloc: Global,
-    sheet: &Sheet,
-    supply: &S,
-    deadlines: bool,
-    bytes: &[u8],
-) -> Result<Verdict, AllocError>
-    requires { Serves M.cuts sheet.now }
-    ensures defined { IfOk result (λ v.
-        v ≡ cert_verdict_of P.meaning M.cuts (S.sbf supply.now) sheet.now deadlines bytes.now) }
-    ensures judged { IfOk result
-        (IsVerdict P.meaning M.cuts (S.sbf supply.now) sheet.now deadlines bytes.now) }
-    ensures bounded { IfOk result
-        (IsBoundedBy P.meaning M.cuts (S.sbf supply.now) sheet.now deadlines) }
-{
-    let cert = match read_cert(alloc, bytes) {
-        Ok(cert) => cert,
-        Err(TextRefusal::Line(line)) => return Ok(Verdict::Text { line }),
-        Err(TextRefusal::Memory) => return Err(AllocError),
-    };
-    if let Some(failed) = judge_cert::<P, M, S>(sheet, supply, &cert, deadlines) {
-        return Ok(Verdict::Refused(failed));
-    }
-    Ok(Verdict::Accepted(bounds(alloc, &cert)?))
 }

@@ -431,7 +431,8 @@ impl Place {
         requires least { least field ≤ value }
         requires greatest { value ≤ greatest field }
         requires points { IsRightField field self.points }
-        ensures { result ≡ more_digits self.version self.task self.after self.points field value byte }
+        ensures { result ≡ more_digits self.version self.task self.after self.points field value
+            byte }
     {
         if byte == field.ender(self.version) {
             return self.after_number(field, value);

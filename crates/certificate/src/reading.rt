@@ -25,7 +25,8 @@ fn push_point(entry: &mut Entry, point: Point, terms: Option<Terms>) -> Result<(
 
 /// Appends a point to the last entry. No point is copied.
 fn add_point(entries: &mut Vec<Entry>, point: Point, terms: Option<Terms>) -> Result<(), AllocError>
-    ensures { OnOk result (entries.new.items ≡ add_point entries.old.items (point_line point terms)) }
+    ensures { OnOk result (entries.new.items ≡ add_point entries.old.items (point_line point
+        terms)) }
 {
     let Some(mut entry) = entries.pop() else {
         return Ok(());

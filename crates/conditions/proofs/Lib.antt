@@ -1,3 +1,4 @@
 pub mod FailedFacts
 pub mod MeetFacts
+pub mod FilledFacts
 pub mod Worked

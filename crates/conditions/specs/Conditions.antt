@@ -9,9 +9,11 @@ use Rattle.demand.specs.Demand.{rest_of, need_of, window_need_of}
 use Rattle.search_space.specs.Points.{same_at}
 use Rattle.certificate.specs.declared.cert.Entry.{Entry}
 use Rattle.certificate.specs.declared.cert.Cert.{Cert}
-use Rattle.certificate.specs.declared.cert.Point.{Point}
+use Rattle.certificate.specs.declared.cert.Terms.{Terms}
+use Rattle.certificate.specs.Text.{PointLine, lines_of}
+use Rattle.conditions.specs.PointTerms.{tells_terms}
 use Rattle.conditions.specs.declared.failed.Cond.{Cond}
-use Rattle.conditions.specs.declared.failed.Cond.TheVariants.{K1, K2, K3, K4, K5, K6, K7, K8, K9}
+use Rattle.conditions.specs.declared.failed.Cond.TheVariants.{K1, K2, K3, K4, K5, K6, K7, K8, K9, K10}
 use Rattle.conditions.specs.declared.failed.Failed.{Failed}
 
 -- what stands past the last entry
@@ -75,20 +77,22 @@ abbrev pub gap_failed_of : PolicyMeaning → SheetParts → ℕ → Option ℕ �
 gap_failed_of p sheet i None q = None
 gap_failed_of p sheet i (Some before) q = must (same_at p sheet i before (q - 1)) (of_point i before K5)
 
--- K4, K5 for the gap from the offset before, K6, K7 and K8 at the point (a, x)
-abbrev pub point_failed_of : PolicyMeaning → CutMeaning → (ℕ → ℕ) → SheetParts → ℕ → ℕ → ℕ → Option ℕ → ℕ → ℕ → Option Failed
-point_failed_of p m sbf sheet i window bound before a x =
+-- K4, K5 for the gap from the offset before, K6, K7, K8 and K10 at the point (a, x), whose terms are told or not
+abbrev pub point_failed_of : PolicyMeaning → CutMeaning → (ℕ → ℕ) → SheetParts → ℕ → ℕ → ℕ → Option ℕ → ℕ → ℕ → Option Terms → Option Failed
+point_failed_of p m sbf sheet i window bound before a x told =
     first_of (must (comes_next before a && nat_lt a window) (of_point i a K4))
     (first_of (gap_failed_of p sheet i before a)
     (first_of (must (ends_within sheet i a x bound) (of_point i a K6))
     (first_of (must (meets_end p m sbf sheet i a x) (of_point i a K7))
-    (must (rest_within p m sbf sheet i a x bound) (of_point i a K8)))))
+    (first_of (must (rest_within p m sbf sheet i a x bound) (of_point i a K8))
+    (must (tells_terms p m sheet i a x told) (of_point i a K10))))))
 
--- the points that follow the offset before, and the gap from the last of them to the window's end
-abbrev pub points_failed_of : PolicyMeaning → CutMeaning → (ℕ → ℕ) → SheetParts → ℕ → ℕ → ℕ → Option ℕ → List Point → Option Failed
+-- the points that follow the offset before, each as its line tells it, and the gap from the last of them to the window's end
+abbrev pub points_failed_of : PolicyMeaning → CutMeaning → (ℕ → ℕ) → SheetParts → ℕ → ℕ → ℕ → Option ℕ → List PointLine → Option Failed
 points_failed_of p m sbf sheet i window bound before [] = gap_failed_of p sheet i before window
-points_failed_of p m sbf sheet i window bound before (q ∷ qs) =
-    first_of (point_failed_of p m sbf sheet i window bound before q.offset q.end) (points_failed_of p m sbf sheet i window bound (Some q.offset) qs)
+points_failed_of p m sbf sheet i window bound before (l ∷ ls) =
+    first_of (point_failed_of p m sbf sheet i window bound before l.point.offset l.point.end l.terms)
+    (points_failed_of p m sbf sheet i window bound (Some l.point.offset) ls)
 
 -- a condition of the entry as a whole, with its task
 abbrev pub named : ℕ → Option Cond → Option Failed
@@ -98,7 +102,8 @@ named i (Some cond) = Some (of_task i cond)
 -- task i and its entry
 unfoldable pub task_failed_of : PolicyMeaning → CutMeaning → (ℕ → ℕ) → SheetParts → Bool → ℕ → Entry → Option Failed
 task_failed_of p m sbf sheet deadlines i e =
-    first_of (named i (entry_failed_of p m sbf sheet deadlines i e.window e.bound)) (points_failed_of p m sbf sheet i e.window e.bound None e.points)
+    first_of (named i (entry_failed_of p m sbf sheet deadlines i e.window e.bound))
+    (points_failed_of p m sbf sheet i e.window e.bound None (lines_of e.points e.terms))
 
 -- the first n tasks and their entries
 abbrev pub tasks_failed_of : PolicyMeaning → CutMeaning → (ℕ → ℕ) → SheetParts → Bool → Cert → ℕ → Option Failed

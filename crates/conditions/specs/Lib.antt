@@ -1,2 +1,4 @@
+pub mod PointTerms
 pub mod Conditions
 pub mod Meets
+pub mod Filled

@@ -85,11 +85,12 @@ fn task_failed<P: Policy, M: Preemption, S: Supply>(
         entry.window,
         entry.bound,
         entry.points.as_slice(),
+        entry.terms.as_slice(),
     )
 }
 
 /// The first condition that fails of a certificate, in the order of judging: `K1`, then task by
-/// task `K2`, `K3`, `K9` with `deadlines`, and point by point `K4` to `K8`.
+/// task `K2`, `K3`, `K9` with `deadlines`, and point by point `K4` to `K8` and `K10`.
 #[tactic(auto, using(crate::proofs::FailedFacts::failed_at), unfolding(crate::specs::Conditions::failed_of))]
 pub fn first_failed<P: Policy, M: Preemption, S: Supply>(
     sheet: &Sheet,
@@ -103,11 +104,7 @@ pub fn first_failed<P: Policy, M: Preemption, S: Supply>(
 {
     let tasks = sheet.len();
     if cert.entries.len() != tasks as usize {
-        return Some(Failed {
-            cond: Cond::K1,
-            task: None,
-            point: None,
-        });
+        return Some(Failed::of_cert(Cond::K1));
     }
     for i in 0..tasks {
         if let Some(failed) = task_failed::<P, M, S>(sheet, supply, i, entry(cert, i), deadlines) {

@@ -1,6 +1,6 @@
 //! Which condition failed, and where.
 ghost use Rattle.std.specs.Prelude.{◌≡◌};
-ghost use Rattle.conditions.specs.Conditions.{of_task, of_point};
+ghost use Rattle.conditions.specs.Conditions.{of_cert, of_task, of_point};
 
 /// A condition of a certificate.
 #[derive(Clone, Copy, Debug, PartialEq, Eq)]
@@ -24,6 +24,8 @@ pub enum Cond {
     K8,
     /// The bound is at most the deadline.
     K9,
+    /// The terms are those of the offset and the end.
+    K10,
 }
 
 /// A condition that failed.
@@ -32,11 +34,21 @@ pub struct Failed {
     pub cond: Cond,
     /// The task's number, counted from 0; none for `K1`.
     pub task: Option<u32>,
-    /// An offset in ticks, for `K4` to `K8`: of `K5` the one that the gap follows.
+    /// An offset in ticks, for `K4` to `K8` and `K10`: of `K5` the one that the gap follows.
     pub point: Option<u64>,
 }
 
 impl Failed {
+    pub fn of_cert(cond: Cond) -> Failed
+        ensures { result ≡ of_cert cond }
+    {
+        Failed {
+            cond,
+            task: None,
+            point: None,
+        }
+    }
+
     pub fn of_task(task: u32, cond: Cond) -> Failed
         ensures { result ≡ of_task task cond }
     {

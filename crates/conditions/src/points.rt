@@ -1,14 +1,15 @@
 //! The conditions of the points of an entry.
-ghost use Rattle.std.specs.Prelude.{◌≡◌, ◌≤◌, ◌<◌, ◌-◌, not, None, length, IfNone, All};
+ghost use Rattle.std.specs.Prelude.{◌≡◌, ◌≤◌, ◌<◌, ◌-◌, not, None, length, slice_get, IfNone, IfSome, All};
 ghost use Rattle.lists.specs.Limits.{greatest_number};
 ghost use Rattle.preemption.specs.CutLaws.{Serves};
 ghost use Rattle.search_space.specs.Points.{same_at};
-ghost use Rattle.certificate.specs.Text.{IsPoint};
-ghost use Rattle.conditions.specs.Conditions.{point_failed_of, points_failed_of};
+ghost use Rattle.certificate.specs.Text.{IsPoint, lines_of};
+ghost use Rattle.conditions.specs.Conditions.{gap_failed_of, point_failed_of, points_failed_of};
 
 use crate::failed::{Cond, Failed};
-use certificate::Point;
-use demand::{need, rest};
+use crate::terms::terms_at;
+use certificate::{Point, Terms};
+use demand::rest;
 use policy::Policy;
 use preemption::Preemption;
 use search_space::is_same;
@@ -26,8 +27,9 @@ pub fn gap_failed<P: Policy>(sheet: &Sheet, i: u32, p: u64, q: u64) -> bool
     !is_same::<P>(sheet, i, p, q - 1)
 }
 
-/// The first of `K4` to `K8` that fails of task `i` at the point with this offset and end, which
-/// follows the offset `before`. Window, bound, offsets and end are in ticks.
+/// The first of `K4` to `K8` and `K10` that fails of task `i` at the point with this offset and end,
+/// which follows the offset `before`. Window, bound, offsets and end are in ticks. `K10` is judged
+/// where the point's terms are told.
 #[tactic(auto, using(task_sheet::specs::Limits::jitter_high))]
 pub fn point_failed<P: Policy, M: Preemption, S: Supply>(
     sheet: &Sheet,
@@ -38,6 +40,7 @@ pub fn point_failed<P: Policy, M: Preemption, S: Supply>(
     before: Option<u64>,
     offset: u64,
     end: u64,
+    told: Option<Terms>,
 ) -> Option<Failed>
     requires task { i < length sheet.now.tasks }
     requires window { window ≤ greatest_number }
@@ -46,7 +49,7 @@ pub fn point_failed<P: Policy, M: Preemption, S: Supply>(
     requires end { end ≤ greatest_number }
     requires served { Serves M.cuts sheet.now }
     ensures first { result ≡ point_failed_of P.meaning M.cuts (S.sbf supply.now) sheet.now i window
-        bound before offset end }
+        bound before offset end told }
     ensures below { IfNone result (offset < window) }
 {
     let is_next = match before {
@@ -65,17 +68,50 @@ pub fn point_failed<P: Policy, M: Preemption, S: Supply>(
     if end + jitter > offset + bound {
         return Some(Failed::of_point(i, offset, Cond::K6));
     }
-    let need = need::<P, M>(sheet, i, offset, end);
-    if (supply.sbf(end) as u128) < need {
+    let terms = terms_at::<P, M>(sheet, i, offset, end);
+    if (supply.sbf(end) as u128) < terms.need {
         return Some(Failed::of_point(i, offset, Cond::K7));
     }
-    if (supply.sbf(offset + bound - jitter) as u128) < need + rest::<M>(sheet, i) as u128 {
+    if (supply.sbf(offset + bound - jitter) as u128) < terms.need + rest::<M>(sheet, i) as u128 {
         return Some(Failed::of_point(i, offset, Cond::K8));
+    }
+    if let Some(told) = told
+        && told != terms
+    {
+        return Some(Failed::of_point(i, offset, Cond::K10));
     }
     None
 }
 
-/// The first of `K4` to `K8` that fails at the points of task `i`, or up to its window's end.
+/// The terms at this place, where there are so many.
+fn told_at(terms: &[Terms], at: usize) -> Option<Terms>
+    ensures { result ≡ slice_get terms.now at }
+{
+    terms.get(at).copied()
+}
+
+/// Whether `K5` fails from the last offset up to the window's end.
+fn last_gap_failed<P: Policy>(
+    sheet: &Sheet,
+    i: u32,
+    last: Option<u64>,
+    window: u64,
+) -> Option<Failed>
+    requires task { i < length sheet.now.tasks }
+    requires window { window ≤ greatest_number }
+    requires below { IfSome last (λ p. p < window) }
+    ensures { result ≡ gap_failed_of P.meaning sheet.now i last window }
+{
+    if let Some(p) = last
+        && gap_failed::<P>(sheet, i, p, window)
+    {
+        return Some(Failed::of_point(i, p, Cond::K5));
+    }
+    None
+}
+
+/// The first of `K4` to `K8` and `K10` that fails at the points of task `i`, or up to its window's
+/// end. The first of `terms` are those of the first point, and so on.
 pub fn points_failed<P: Policy, M: Preemption, S: Supply>(
     sheet: &Sheet,
     supply: &S,
@@ -83,6 +119,7 @@ pub fn points_failed<P: Policy, M: Preemption, S: Supply>(
     window: u64,
     bound: u64,
     points: &[Point],
+    terms: &[Terms],
 ) -> Option<Failed>
     requires task { i < length sheet.now.tasks }
     requires window { window ≤ greatest_number }
@@ -90,10 +127,10 @@ pub fn points_failed<P: Policy, M: Preemption, S: Supply>(
     requires points { All IsPoint points.now }
     requires served { Serves M.cuts sheet.now }
     ensures { result ≡ points_failed_of P.meaning M.cuts (S.sbf supply.now) sheet.now i window bound
-        None points.now }
+        None (lines_of points.now terms.now) }
 {
     let mut before = None;
-    for point in points {
+    for (at, point) in points.iter().enumerate() {
         if let Some(failed) = point_failed::<P, M, S>(
             sheet,
             supply,
@@ -103,15 +140,11 @@ pub fn points_failed<P: Policy, M: Preemption, S: Supply>(
             before,
             point.offset,
             point.end,
+            told_at(terms, at),
         ) {
             return Some(failed);
         }
         before = Some(point.offset);
     }
-    if let Some(p) = before
-        && gap_failed::<P>(sheet, i, p, window)
-    {
-        return Some(Failed::of_point(i, p, Cond::K5));
-    }
-    None
+    last_gap_failed::<P>(sheet, i, before, window)
 }

@@ -96,6 +96,17 @@ impl Prefix {
         })
     }
 
+    /// An equal prefix.
+    pub fn copy(&self, alloc: Global) -> Result<Prefix, AllocError>
+        ensures { IfOk result (λ prefix. prefix ≡ self.now) }
+    {
+        let steps = Vec::from_slice(alloc, self.steps.as_slice())?;
+        Ok(Prefix {
+            horizon: self.horizon,
+            steps,
+        })
+    }
+
     /// In ticks.
     pub fn horizon(&self) -> u64
         ensures horizon { result ≡ self.now.horizon }

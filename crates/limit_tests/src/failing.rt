@@ -1,235 +1,131 @@
-//! Failing files and sinks, and files past their limits.
+//! Files and sinks that fail at each of their calls in turn, and files that come slowly.
 use super::said::assert_said;
 use poet_io::{MemShelf, MemSink};
 use std::alloc::{AllocError, Global};
 use std::process::Abort;
 use std::test::Fail;
-use top_cases::files::{ONE_TASK, ONE_TASK_CERT};
+use top_cases::files::*;
 use top_cases::{files_of, shelf_of, sink_of, words_of};
 
-/// Words over the first worked example, a fault, and what the program says then.
-struct Failing {
+/// Words over the files `s` and `c`, what the program says to them, and what it calls these files.
+struct Row {
     words: &'static str,
-    /// The failing call of the shelf.
-    call: u64,
-    /// The failing write of `out`.
-    write: u64,
+    /// The files `s` and `c`.
+    files: (&'static str, &'static str),
+    /// The files that it reads, in their order.
+    names: &'static [&'static str],
     status: u8,
     out: &'static str,
-    err: &'static str,
 }
 
-/// The number of no call.
-const NEVER: u64 = 99;
+/// A file is opened, read, and read once more where it ends.
+const CALLS: usize = 3;
 
-const NO_SHEET: &str = "read failed: sheet\n";
-
-const NO_CERTIFICATE: &str = "read failed: certificate\n";
-
-const NO_RUN: &str = "read failed: run\n";
-
-const NO_TRACE: &str = "read failed: trace\n";
-
-const FAILING: [Failing; 25] = [
-    Failing {
+const ROWS: [Row; 15] = [
+    Row {
         words: "check s c",
-        call: NEVER,
-        write: NEVER,
+        files: (ONE_TASK, ONE_TASK_CERT),
+        names: &["sheet", "certificate"],
         status: 0,
         out: "accepted\ntask a bound 2 deadline 5 met\n",
-        err: "",
     },
-    Failing {
-        words: "check s c",
-        call: 0,
-        write: NEVER,
-        status: 3,
-        out: "",
-        err: NO_SHEET,
+    Row {
+        words: "check s c deadlines",
+        files: (SHORT_DEADLINE, ONE_TASK_CERT),
+        names: &["sheet", "certificate"],
+        status: 1,
+        out: "refused K9 task a\n",
     },
-    Failing {
-        words: "check s c",
-        call: 1,
-        write: NEVER,
-        status: 3,
-        out: "",
-        err: NO_SHEET,
+    Row {
+        words: "analyse s 1000000",
+        files: (EIGHT_TASKS, ""),
+        names: &["sheet"],
+        status: 0,
+        out: EIGHT_TASKS_CERT,
     },
-    Failing {
-        words: "check s c",
-        call: 3,
-        write: NEVER,
-        status: 3,
-        out: "",
-        err: NO_CERTIFICATE,
+    Row {
+        words: "analyse s 1000",
+        files: (OVERLOAD, ""),
+        names: &["sheet"],
+        status: 1,
+        out: "no bound task low window\n",
     },
-    Failing {
-        words: "check s c",
-        call: 4,
-        write: NEVER,
-        status: 3,
-        out: "",
-        err: NO_CERTIFICATE,
+    Row {
+        words: "simulate s dense 12",
+        files: (NEVER_PREEMPTED, ""),
+        names: &["sheet"],
+        status: 0,
+        out: DENSE_RUN,
     },
-    Failing {
-        words: "check s d",
-        call: NEVER,
-        write: NEVER,
-        status: 3,
-        out: "",
-        err: NO_CERTIFICATE,
-    },
-    Failing {
-        words: "check s c",
-        call: NEVER,
-        write: 0,
-        status: 4,
-        out: "",
-        err: "write failed\n",
-    },
-    Failing {
-        words: "analyse s 100",
-        call: 0,
-        write: NEVER,
-        status: 3,
-        out: "",
-        err: NO_SHEET,
-    },
-    Failing {
-        words: "analyse s 100",
-        call: 1,
-        write: NEVER,
-        status: 3,
-        out: "",
-        err: NO_SHEET,
-    },
-    Failing {
-        words: "analyse s 100",
-        call: NEVER,
-        write: 0,
-        status: 4,
-        out: "",
-        err: "write failed\n",
-    },
-    Failing {
-        words: "simulate s dense 3",
-        call: 0,
-        write: NEVER,
-        status: 3,
-        out: "",
-        err: NO_SHEET,
-    },
-    Failing {
-        words: "simulate s dense 3",
-        call: 1,
-        write: NEVER,
-        status: 3,
-        out: "",
-        err: NO_SHEET,
-    },
-    Failing {
-        words: "simulate s dense 3",
-        call: NEVER,
-        write: 0,
-        status: 4,
-        out: "",
-        err: "write failed\n",
-    },
-    Failing {
+    Row {
         words: "audit s c",
-        call: 0,
-        write: NEVER,
-        status: 3,
-        out: "",
-        err: NO_SHEET,
+        files: (NEVER_PREEMPTED, DENSE_RUN),
+        names: &["sheet", "run"],
+        status: 0,
+        out: "compliant\ntask a jobs 3 done 3 worst 1\ntask b jobs 2 done 2 worst 3\n",
     },
-    Failing {
-        words: "audit s c",
-        call: 1,
-        write: NEVER,
-        status: 3,
-        out: "",
-        err: NO_SHEET,
-    },
-    Failing {
-        words: "audit s c",
-        call: 3,
-        write: NEVER,
-        status: 3,
-        out: "",
-        err: NO_RUN,
-    },
-    Failing {
-        words: "audit s c",
-        call: 4,
-        write: NEVER,
-        status: 3,
-        out: "",
-        err: NO_RUN,
-    },
-    Failing {
+    Row {
         words: "report s c text",
-        call: 0,
-        write: NEVER,
-        status: 3,
-        out: "",
-        err: NO_SHEET,
+        files: (TWO_TASKS, TWO_TASKS_CERT),
+        names: &["sheet", "certificate"],
+        status: 0,
+        out: TWO_TASKS_TABLE,
     },
-    Failing {
-        words: "report s c text",
-        call: 1,
-        write: NEVER,
-        status: 3,
-        out: "",
-        err: NO_SHEET,
+    Row {
+        words: "report s c json",
+        files: (TWO_TASKS, TWO_TASKS_CERT),
+        names: &["sheet", "certificate"],
+        status: 0,
+        out: TWO_TASKS_JSON,
     },
-    Failing {
-        words: "report s c text",
-        call: 3,
-        write: NEVER,
-        status: 3,
-        out: "",
-        err: NO_CERTIFICATE,
+    Row {
+        words: "exercise 1 8",
+        files: ("", ""),
+        names: &[],
+        status: 0,
+        out: "exercise seed 1 tasks 8 points 23 greatest 97 jobs 225 done 224 worst 97\n",
     },
-    Failing {
-        words: "report s c text",
-        call: 4,
-        write: NEVER,
-        status: 3,
-        out: "",
-        err: NO_CERTIFICATE,
+    Row {
+        words: "upgrade s c",
+        files: (NEVER_PREEMPTED, NEVER_PREEMPTED_CERT),
+        names: &["sheet", "certificate"],
+        status: 0,
+        out: NEVER_PREEMPTED_TERMS,
     },
-    Failing {
-        words: "report s c text",
-        call: NEVER,
-        write: 0,
-        status: 4,
-        out: "",
-        err: "write failed\n",
+    Row {
+        words: "upgrade s c",
+        files: (ONE_TASK, TWO_TASKS_CERT),
+        names: &["sheet", "certificate"],
+        status: 1,
+        out: "refused K1\n",
     },
-    Failing {
-        words: "exercise 1 1",
-        call: NEVER,
-        write: 0,
-        status: 4,
-        out: "",
-        err: "write failed\n",
+    Row {
+        words: "assign s 100",
+        files: (SLOW_AND_FAST, ""),
+        names: &["sheet"],
+        status: 0,
+        out: "assigned\ntask slow priority 1 bound 4\ntask fast priority 2 bound 1\n",
     },
-    Failing {
+    Row {
+        words: "assign s 100",
+        files: (TWINS, ""),
+        names: &["sheet"],
+        status: 1,
+        out: "no order at level 1\n",
+    },
+    Row {
+        words: "promise s",
+        files: (PROMISED, ""),
+        names: &["sheet"],
+        status: 0,
+        out: "horizon 4 times 3 4\n",
+    },
+    Row {
         words: "infer s 6",
-        call: 0,
-        write: NEVER,
-        status: 3,
-        out: "",
-        err: NO_TRACE,
-    },
-    Failing {
-        words: "infer s 6",
-        call: 1,
-        write: NEVER,
-        status: 3,
-        out: "",
-        err: NO_TRACE,
+        files: ("poet-trace 1\narrivals 4\na 0\na 0\na 4\na 5\nend\n", ""),
+        names: &["trace"],
+        status: 0,
+        out: "curve = { horizon = 6, steps = [[1, 2], [5, 3], [6, 4]] }\n",
     },
 ];
 
@@ -239,115 +135,85 @@ fn one(alloc: Global, at: u64) -> Result<Vec<u64>, AllocError> {
     Ok(all)
 }
 
-fn assert_failing(rt: &impl Abort, alloc: Global, row: &Failing) -> Result<(), AllocError> {
+/// The row, where the call of the shelf with this number fails.
+fn assert_call(rt: &impl Abort, alloc: Global, row: &Row, call: usize) -> Result<(), AllocError> {
     let words = words_of(alloc, row.words)?;
-    let (sheet, other) = (ONE_TASK.as_bytes(), ONE_TASK_CERT.as_bytes());
-    let shelf = shelf_of(alloc, sheet, other, one(alloc, row.call)?)?;
-    let out = MemSink::new(alloc, one(alloc, row.write)?, 1, 99)?;
+    let (first, second) = (row.files.0.as_bytes(), row.files.1.as_bytes());
+    let shelf = shelf_of(alloc, first, second, one(alloc, call as u64)?)?;
+    let (out, err) = (sink_of(alloc, 4096)?, sink_of(alloc, 99)?);
+    match row.names.get(call / CALLS) {
+        Some(name) => {
+            let line = format!(in alloc; "read failed: {name}\n")?;
+            assert_said(
+                rt,
+                alloc,
+                &words,
+                shelf,
+                out,
+                err,
+                (3, b"", line.as_bytes()),
+            );
+        }
+        None => {
+            let said = (row.status, row.out.as_bytes(), b"".as_slice());
+            assert_said(rt, alloc, &words, shelf, out, err, said);
+        }
+    }
+    Ok(())
+}
+
+#[test]
+fn each_call_of_the_shelf_fails(rt: HostRuntime) -> Result<(), Fail> {
+    for row in &ROWS {
+        for call in 0..row.names.len() * CALLS + 1 {
+            assert_call(&rt, rt.alloc(), row, call)?;
+        }
+    }
+    Ok(())
+}
+
+/// The row, where `out` takes one byte at a time and fails at this one.
+fn assert_write(rt: &impl Abort, alloc: Global, row: &Row, write: usize) -> Result<(), AllocError> {
+    let words = words_of(alloc, row.words)?;
+    let (first, second) = (row.files.0.as_bytes(), row.files.1.as_bytes());
+    let shelf = shelf_of(alloc, first, second, Vec::new(alloc))?;
+    let out = MemSink::new(alloc, one(alloc, write as u64)?, 1, 4096)?;
     let err = MemSink::new(alloc, Vec::new(alloc), 7, 99)?;
-    let said = (row.status, row.out.as_bytes(), row.err.as_bytes());
+    let said = match row.out.as_bytes().get(..write) {
+        Some(front) if write < row.out.len() => (4, front, b"write failed\n".as_slice()),
+        _ => (row.status, row.out.as_bytes(), b"".as_slice()),
+    };
     assert_said(rt, alloc, &words, shelf, out, err, said);
     Ok(())
 }
 
 #[test]
-fn failing_files_and_sinks(rt: HostRuntime) -> Result<(), Fail> {
-    for row in &FAILING {
-        assert_failing(&rt, rt.alloc(), row)?;
+fn each_write_fails(rt: HostRuntime) -> Result<(), Fail> {
+    for row in &ROWS {
+        for write in 0..row.out.len() + 1 {
+            assert_write(&rt, rt.alloc(), row, write)?;
+        }
     }
     Ok(())
 }
 
-/// `check` of a sheet and a certificate.
-fn assert_check(
-    rt: &impl Abort,
-    alloc: Global,
-    sheet: &[u8],
-    certificate: &[u8],
-    said: (u8, &str, &str),
-) -> Result<(), AllocError> {
-    let words = words_of(alloc, "check s c")?;
-    let shelf = shelf_of(alloc, sheet, certificate, Vec::new(alloc))?;
-    let (out, err) = (sink_of(alloc, 99)?, sink_of(alloc, 99)?);
-    let said = (said.0, said.1.as_bytes(), said.2.as_bytes());
+/// The row, where each read moves so many bytes at most.
+fn assert_slow(rt: &impl Abort, alloc: Global, row: &Row, most: usize) -> Result<(), AllocError> {
+    let words = words_of(alloc, row.words)?;
+    let files = files_of(alloc, row.files.0.as_bytes(), row.files.1.as_bytes())?;
+    let shelf = MemShelf::slow(files, Vec::new(alloc), most.max(1));
+    let (out, err) = (sink_of(alloc, 4096)?, sink_of(alloc, 99)?);
+    let said = (row.status, row.out.as_bytes(), b"".as_slice());
     assert_said(rt, alloc, &words, shelf, out, err, said);
-    Ok(())
-}
-
-/// The first worked example's sheet, with a comment so that it has this many bytes.
-fn long_sheet(alloc: Global, len: usize) -> Result<Vec<u8>, AllocError> {
-    let mut bytes = Vec::from_slice(alloc, ONE_TASK.as_bytes())?;
-    bytes.push(b'#')?;
-    for _ in bytes.len()..len {
-        bytes.push(b'#')?;
-    }
-    Ok(bytes)
-}
-
-#[test]
-fn a_sheet_at_its_limit_and_past_it(rt: HostRuntime) -> Result<(), Fail> {
-    let alloc = rt.alloc();
-    let certificate = ONE_TASK_CERT.as_bytes();
-    let sheet = long_sheet(alloc, 1_048_576)?;
-    let text = "accepted\ntask a bound 2 deadline 5 met\n";
-    assert_check(&rt, alloc, &sheet, certificate, (0, text, ""))?;
-    let longer = long_sheet(alloc, 1_048_577)?;
-    let line = "limit: sheet is longer than 1048576 bytes\n";
-    assert_check(&rt, alloc, &longer, certificate, (7, "", line))?;
-    Ok(())
-}
-
-#[test]
-fn a_certificate_past_its_limit(rt: HostRuntime) -> Result<(), Fail> {
-    let alloc = rt.alloc();
-    let certificate = vec![in alloc; b'p'; 67_108_865]?;
-    let line = "limit: certificate is longer than 67108864 bytes\n";
-    assert_check(&rt, alloc, ONE_TASK.as_bytes(), &certificate, (7, "", line))?;
-    Ok(())
-}
-
-/// The line in which it is refused, at its limit, and its length, past it.
-#[test]
-fn a_trace_at_its_limit_and_past_it(rt: HostRuntime) -> Result<(), Fail> {
-    let alloc = rt.alloc();
-    let words = words_of(alloc, "infer s 6")?;
-    let lines = [
-        (1_048_576, 6, "trace: line 1 is not of the format\n"),
-        (1_048_577, 7, "limit: trace is longer than 1048576 bytes\n"),
-    ];
-    for (len, status, line) in lines {
-        let trace = vec![in alloc; b'p'; len]?;
-        let shelf = shelf_of(alloc, &trace, &[], Vec::new(alloc))?;
-        let (out, err) = (sink_of(alloc, 99)?, sink_of(alloc, 99)?);
-        let said = (status, b"".as_slice(), line.as_bytes());
-        assert_said(&rt, alloc, &words, shelf, out, err, said);
-    }
     Ok(())
 }
 
 #[test]
 fn files_that_come_slowly(rt: HostRuntime) -> Result<(), Fail> {
-    let alloc = rt.alloc();
-    let text = b"accepted\ntask a bound 2 deadline 5 met\n".as_slice();
-    for most in [1, 7] {
-        let files = files_of(alloc, ONE_TASK.as_bytes(), ONE_TASK_CERT.as_bytes())?;
-        let shelf = MemShelf::slow(files, Vec::new(alloc), most);
-        let words = words_of(alloc, "check s c")?;
-        let (out, err) = (sink_of(alloc, 99)?, sink_of(alloc, 99)?);
-        assert_said(&rt, alloc, &words, shelf, out, err, (0, text, b""));
+    for row in &ROWS {
+        for most in [1, 7] {
+            assert_slow(&rt, rt.alloc(), row, most)?;
+        }
     }
-    Ok(())
-}
-
-#[test]
-fn a_sheet_that_is_no_text(rt: HostRuntime) -> Result<(), Fail> {
-    let line = "sheet: not a TOML document\n";
-    assert_check(
-        &rt,
-        rt.alloc(),
-        &[0xff],
-        ONE_TASK_CERT.as_bytes(),
-        (5, "", line),
-    )?;
     Ok(())
 }

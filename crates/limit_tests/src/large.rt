@@ -5,7 +5,7 @@ use std::alloc::{AllocError, Global};
 use std::fmt::Write;
 use std::process::Abort;
 use std::test::Fail;
-use top_cases::files::{CROWD, EIGHT_TASKS};
+use top_cases::files::{CROWD, EIGHT_TASKS, ONE_TASK_CERT};
 use top_cases::{shelf_of, sink_of, words_of};
 
 /// A sheet of so many equal tasks, under fp.
@@ -52,6 +52,45 @@ fn segmented_task(alloc: Global, count: u32) -> Result<String, AllocError> {
     Ok(text)
 }
 
+/// A task with as much load as a sheet can say.
+const HEAVY: &str =
+    "policy = \"fp\"\n\n[[task]]\nname = \"a\"\ncost = 1000000000\ndeadline = 1000000000\npriority = 1\ncurve = { horizon = 1, steps = [[1, 1]] }\n";
+
+/// A certificate of one task with so many equal points.
+fn long_certificate(alloc: Global, points: u32) -> Result<String, AllocError> {
+    let mut text = String::new(alloc);
+    write!(text, "poet-cert 1\ntasks 1\ntask 0 1 1 {points}\n")?;
+    for _ in 0..points {
+        text.push_str("p 1000000000 1000000000\n")?;
+    }
+    text.push_str("end\n")?;
+    Ok(text)
+}
+
+/// A sheet with a table of a thousand slots: one tick in each hundred.
+fn table_of_a_thousand(alloc: Global) -> Result<String, AllocError> {
+    let mut text = String::from_str(alloc, "policy = \"fp\"\n\n[supply]\ncycle = 100000\n")?;
+    text.push_str("slots = [[0, 1]")?;
+    for k in 1..1000u32 {
+        let start = 100 * k;
+        write!(text, ", [{start}, 1]")?;
+    }
+    text.push_str("]\n\n[[task]]\nname = \"a\"\ncost = 1\ndeadline = 512\n")?;
+    text.push_str("priority = 1\nperiod = 512\n")?;
+    Ok(text)
+}
+
+/// The promise of that table.
+fn thousand_times(alloc: Global) -> Result<String, AllocError> {
+    let mut text = String::from_str(alloc, "horizon 100000 times")?;
+    for k in 1..1001u32 {
+        let time = 100 * k;
+        write!(text, " {time}")?;
+    }
+    text.push_str("\n")?;
+    Ok(text)
+}
+
 /// Compares what the program says to the words over two files.
 fn assert_words(
     rt: &impl Abort,
@@ -80,6 +119,8 @@ fn as_many_tasks_as_there_may_be(rt: HostRuntime) -> Result<(), Fail> {
     let lines = equal_lines(alloc, 256)?;
     let files = (sheet.as_str(), certificate.as_str());
     assert_words(&rt, alloc, "check s c", files, (0, lines.as_str(), ""))?;
+    let said = (0, certificate.as_str(), "");
+    assert_words(&rt, alloc, "analyse s 1000", files, said)?;
     Ok(())
 }
 
@@ -104,6 +145,45 @@ fn as_many_segments_as_there_may_be(rt: HostRuntime) -> Result<(), Fail> {
     let line = "sheet: preemption out of range in task 0\n";
     let files = (more.as_str(), certificate);
     assert_words(&rt, alloc, "check s c", files, (5, "", line))?;
+    Ok(())
+}
+
+/// The first worked example of one task with these lines, and what is said to it.
+const LINES: [(&str, u8, &str); 5] = [
+    (
+        "name = \"abcdefghijklmnopqrstuvwxyz0123456\"\ncost = 2\npriority = 1\n",
+        5,
+        "sheet: name out of range in task 0\n",
+    ),
+    (
+        "name = \"a\"\ncost = 2\npriority = 1000000001\n",
+        5,
+        "sheet: priority out of range in task 0\n",
+    ),
+    ("name = \"a\"\ncost = 2\npriority = 1000000000\n", 0, ""),
+    (
+        "name = \"a\"\ncost = 2\npriority = 1\npreemption = { floating = 2 }\n",
+        0,
+        "",
+    ),
+    (
+        "name = \"a\"\ncost = 2\npriority = 1\npreemption = { floating = 3 }\n",
+        5,
+        "sheet: preemption does not fit cost in task 0\n",
+    ),
+];
+
+#[test]
+fn numbers_at_their_limits(rt: HostRuntime) -> Result<(), Fail> {
+    let alloc = rt.alloc();
+    for (lines, status, err) in &LINES {
+        let mut sheet = String::from_str(alloc, "policy = \"fp\"\n[[task]]\n")?;
+        sheet.push_str(lines)?;
+        sheet.push_str("deadline = 5\nperiod = 5\n")?;
+        let out = if *status == 0 { ONE_TASK_CERT } else { "" };
+        let files = (sheet.as_str(), "");
+        assert_words(&rt, alloc, "analyse s 100", files, (*status, out, err))?;
+    }
     Ok(())
 }
 
@@ -135,5 +215,30 @@ fn printed_sheets_read_again(rt: HostRuntime) -> Result<(), Fail> {
     let printed = print_sheet(alloc, &sheet)?;
     let again = read_sheet(alloc, &printed)?;
     assert_eq!(rt; print_sheet(alloc, &again)?.as_slice(), printed.as_slice());
+    Ok(())
+}
+
+/// With its terms the line of each point has 68 bytes.
+#[test]
+fn upgraded_certificates_have_a_limit(rt: HostRuntime) -> Result<(), Fail> {
+    let alloc = rt.alloc();
+    let certificate = long_certificate(alloc, 1_000_000)?;
+    let line = "limit: upgraded certificate is longer than 67108864 bytes\n";
+    let files = (HEAVY, certificate.as_str());
+    assert_words(&rt, alloc, "upgrade s c", files, (7, "", line))?;
+    Ok(())
+}
+
+#[test]
+fn as_many_slots_as_there_may_be(rt: HostRuntime) -> Result<(), Fail> {
+    let alloc = rt.alloc();
+    let (sheet, promise) = (table_of_a_thousand(alloc)?, thousand_times(alloc)?);
+    assert_words(
+        &rt,
+        alloc,
+        "promise s",
+        (sheet.as_str(), ""),
+        (0, promise.as_str(), ""),
+    )?;
     Ok(())
 }

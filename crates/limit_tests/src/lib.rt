@@ -7,4 +7,6 @@ mod failing;
 #[cfg(test)]
 mod large;
 #[cfg(test)]
+mod malformed;
+#[cfg(test)]
 mod said;

@@ -3,7 +3,7 @@ ghost use Rattle.std.specs.Prelude.{◌≡◌, ◌≤◌, ◌<◌, ◌^◌, leng
 ghost use Rattle.lists.specs.Limits.{greatest_number};
 ghost use Rattle.lists.specs.Searches.{IsFirstBelow};
 ghost use Rattle.preemption.specs.CutLaws.{Serves};
-ghost use Rattle.demand.specs.Demand.{blocking_of, need_of};
+ghost use Rattle.demand.specs.Demand.{blocking_of, need_of, rest_of};
 ghost use Rattle.search_space.specs.Points.{IsPointAfter};
 ghost use Rattle.meter.specs.Meters.{meter_at};
 
@@ -56,9 +56,15 @@ impl<'a, P: Policy, M: Preemption> Model for Meter<'a, P, M> {
 
     ghost use Rattle.meter.specs.Meters.{IsMetering};
 
-    ghost view = { λ m. record { sheet = m.sheet.now; task = m.task; offset = m.offset; end = m.end } };
+    ghost view = { λ m. record {
+      sheet = m.sheet.now;
+      task = m.task;
+      offset = m.offset;
+      end = m.end;
+    } };
 
-    ghost invariant = { λ m. IsMetering P.meaning M.cuts m.sheet.now m.task m.offset m.end m.tracks m.begun.items m.blocker m.rest };
+    ghost invariant = { λ m. IsMetering P.meaning M.cuts m.sheet.now m.task m.offset m.end m.tracks
+        m.begun.items m.blocker m.rest };
 }
 
 impl<'a, P: Policy, M: Preemption> Meter<'a, P, M> {
@@ -137,23 +143,33 @@ impl<'a, P: Policy, M: Preemption> Meter<'a, P, M> {
     /// The longest, in ticks, that a segment that began before the window can block a job of its
     /// task that is released at its offset.
     pub fn blocking(&self) -> u64
-        ensures { result ≡ blocking_of P.meaning M.cuts self.now.sheet self.now.task self.now.offset }
+        ensures { result ≡ blocking_of P.meaning M.cuts self.now.sheet self.now.task
+            self.now.offset }
     {
         self.blocker.block
     }
 
     /// The demand of a job of its task that is released at its offset, in ticks, within its end.
     pub fn need(&self) -> u128
-        ensures exact { result ≡ need_of P.meaning M.cuts self.now.sheet self.now.task self.now.offset self.now.end }
+        ensures exact { result ≡ need_of P.meaning M.cuts self.now.sheet self.now.task
+            self.now.offset self.now.end }
         ensures bound { result ≤ 2 ^ 93 }
     {
         self.blocker.block as u128 + (self.tracks.sum - self.rest as u128)
     }
 
+    /// The ticks that a job of its task has still to run once it has had its threshold.
+    pub fn rest(&self) -> u64
+        ensures { result ≡ rest_of M.cuts self.now.sheet self.now.task }
+    {
+        self.rest
+    }
+
     /// The least point of its task that is greater than its offset and smaller than `below`.
     pub fn next_point(&self, below: u64) -> Option<u64>
         requires { below ≤ greatest_number }
-        ensures { IsFirstBelow (IsPointAfter P.meaning self.now.sheet self.now.task self.now.offset) below result }
+        ensures { IsFirstBelow (IsPointAfter P.meaning self.now.sheet self.now.task
+            self.now.offset) below result }
     {
         across_gap::<P>();
         let next = self.tracks.changes.least_below(below);

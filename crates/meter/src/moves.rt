@@ -37,7 +37,8 @@ fn rise<P: Policy>(sheet: &Sheet, i: u32, x: u64, tracks: &mut Tracks)
     requires i { i < length sheet.now.tasks }
     requires end { x ≤ greatest_number }
     requires tracking { IsTrackingAt P.meaning sheet.now i tracks.old }
-    requires begun { (k : ℕ) → k < length sheet.now.tasks → HasBegun sheet.now x k (place_of tracks.old.places.items k).end }
+    requires begun { (k : ℕ) → k < length sheet.now.tasks → HasBegun sheet.now x k (place_of
+        tracks.old.places.items k).end }
     ensures { AreMoved P.meaning sheet.now i x tracks.old tracks.new }
 {
     let count = sheet.len() as usize;
@@ -53,7 +54,8 @@ fn fall<P: Policy>(sheet: &Sheet, i: u32, x: u64, tracks: &mut Tracks)
     requires i { i < length sheet.now.tasks }
     requires end { x ≤ greatest_number }
     requires tracking { IsTrackingAt P.meaning sheet.now i tracks.old }
-    requires still { (k : ℕ) → k < length sheet.now.tasks → IsOpen sheet.now x k (place_of tracks.old.places.items k).end }
+    requires still { (k : ℕ) → k < length sheet.now.tasks → IsOpen sheet.now x k (place_of
+        tracks.old.places.items k).end }
     ensures { AreMoved P.meaning sheet.now i x tracks.old tracks.new }
 {
     let count = sheet.len() as usize;
@@ -92,7 +94,8 @@ pub fn advance<P: Policy>(sheet: &Sheet, i: u32, a: u64, b: u64, tracks: &mut Tr
     requires order { a ≤ b }
     requires offset { b < greatest_number }
     requires tracking { IsTrackingAt P.meaning sheet.now i tracks.old }
-    requires counted { AreCounted P.meaning sheet.now i a tracks.old.places.items tracks.old.changes }
+    requires counted { AreCounted P.meaning sheet.now i a tracks.old.places.items
+        tracks.old.changes }
     ensures { AreRecounted P.meaning sheet.now i b tracks.old tracks.new }
 {
     let count = sheet.len() as usize;

@@ -74,9 +74,11 @@ pub fn put<P: Policy>(
     requires o { o < length sheet.now.tasks }
     requires small { IsSmall place }
     requires near { AreNear sheet.now places.old }
-    requires sum { sum ≡ sum_below (asked_of P.meaning sheet.now i places.old) (length sheet.now.tasks) }
+    requires sum { sum ≡ sum_below (asked_of P.meaning sheet.now i places.old)
+        (length sheet.now.tasks) }
     ensures places { places.new ≡ set places.old o place }
-    ensures sum { result ≡ sum_below (asked_of P.meaning sheet.now i places.new) (length sheet.now.tasks) }
+    ensures sum { result ≡ sum_below (asked_of P.meaning sheet.now i places.new)
+        (length sheet.now.tasks) }
 {
     // for the proof: the sheet is valid
     let _valid = sheet.len();

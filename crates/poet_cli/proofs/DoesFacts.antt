@@ -1,24 +1,28 @@
 -- What a command that ended leaves of its shelf, and what its text was printed from.
-use Rattle.std.proofs.Common.{◌≡◌, ◌≢◌, ◌≤◌, ℕ, Bool, true, false, List, Option, Some, None, Result, Ok, Err, IfOk, refl, sym, ap, subst, ◌∙◌, arith}
-use Rattle.poet_io.specs.declared.log.Event.{Event}
+use Rattle.std.proofs.Common.{◌≡◌, ◌≤◌, ℕ, Bool, false, List, Option, Some, None, Result, Ok, Err, IfOk, ap, subst, ◌∙◌, arith}
 use Rattle.task_sheet.specs.SheetParts.{SheetParts}
 use Rattle.task_sheet.specs.declared.refusal.SheetRefusal.{SheetRefusal}
 use Rattle.task_sheet.specs.declared.refusal.SheetRefusal.TheVariants as sheets
 use Rattle.poet_cli.specs.declared.refusal.Source.{Source}
 use Rattle.poet_cli.specs.declared.refusal.Source.TheVariants as source
 use Rattle.poet_cli.specs.declared.refusal.Refusal.{Refusal}
-use Rattle.poet_cli.specs.declared.refusal.Refusal.TheVariants.{Usage, Read, Sheet, Text, Limit, Points, Jobs, Segments, Memory}
+use Rattle.poet_cli.specs.declared.refusal.Refusal.TheVariants.{Usage, Read, Sheet, Text, Limit, Points, Jobs, Segments, LongUpgrade, Memory}
 use Rattle.poet_cli.specs.declared.printed.Printed.{Printed}
 use Rattle.poet_cli.specs.declared.printed.Printed.TheVariants.{Done, JudgedNo}
 use Rattle.poet_cli.specs.Endings.{Ending, IsSound}
 use Rattle.poet_cli.specs.Answers.{sheet_read, sheet_by}
 use Rattle.poet_cli.specs.Words.{Asked}
 use Rattle.poet_cli.specs.Readings.{ShelfAt, WasRead, IsFileReading}
-use Rattle.poet_cli.specs.Steps.{Gives, After, Reads, ReadsSheet, NoFile, OneFile, ReadsNext, TwoFiles}
+use Rattle.poet_cli.specs.Steps.{Gives, After, Reads, ReadsSheet, OneFile, ReadsNext, TwoFiles}
 use Rattle.poet_cli.specs.Origins.{OfFile, OfOneFile, OfTwoFiles}
 use Rattle.poet_cli.specs.Works.{Work}
 use Rattle.poet_cli.specs.Program.{Plan, Alone, OverFile, OverSheet, OverBoth, plan_of, PlanDoes, PlanSays, Does, Headline, Objection}
-use Rattle.poet_cli.specs.Clauses.{LeavesShelf}
+use Rattle.poet_cli.specs.Clauses.{Outside, LeavesShelf, Told, Did}
+
+-- a command that ended so, and how that was told
+pub told_did : (asked : Option Asked) (before after : Outside) (status : ℕ) (ending : Ending) → Does asked before.shelf after.shelf ending →
+    Told ending before.sinks after.sinks status → Did asked before after status
+told_did asked before after status ending does told = record { ending = ending; does = does; told = told }
 
 -- a sheet was read from these bytes
 sheet_is : (read : Result SheetParts SheetRefusal) (parts : SheetParts) → sheet_read read ≡ Ok parts → read ≡ Ok parts
@@ -30,6 +34,7 @@ sheet_is (Err (sheets.Missing place field)) parts e = absurd (cc)
 sheet_is (Err (sheets.Kind place field)) parts e = absurd (cc)
 sheet_is (Err (sheets.Range place field)) parts e = absurd (cc)
 sheet_is (Err (sheets.Order place field)) parts e = absurd (cc)
+sheet_is (Err sheets.Mixed) parts e = absurd (cc)
 sheet_is (Err (sheets.Both task)) parts e = absurd (cc)
 sheet_is (Err (sheets.Twice task)) parts e = absurd (cc)
 sheet_is (Err (sheets.Sum task)) parts e = absurd (cc)
@@ -49,7 +54,7 @@ gave_from : {A : Type 0} (which : Source) (name : List ℕ) (Ends : List ℕ →
     (value : A) → Reads which name Ends before now (Ok value) → Gave which name Ends before now value
 gave_from which name Ends before now value reads = gave_by which name Ends before now value reads.gave reads.reading reads.after
 
-file_of : (which : Source) (name : List ℕ) (Ends : List ℕ → Ending → Type 0) (before now : ShelfAt) (print : Printed) (Holds : List ℕ →
+pub file_of : (which : Source) (name : List ℕ) (Ends : List ℕ → Ending → Type 0) (before now : ShelfAt) (print : Printed) (Holds : List ℕ →
     Type 0) (holds : (bytes : List ℕ) → Ends bytes (Ok print) → Holds bytes) →
     Reads which name Ends before now (Ok print) → OfFile which name before.files before.log now.log Holds
 file_of which name Ends before now print Holds holds reads =
@@ -59,20 +64,20 @@ file_of which name Ends before now print Holds holds reads =
 module _ (name : List ℕ) (Ends : SheetParts → Ending → Type 0) (before now : ShelfAt) (print : Printed) (Holds : SheetParts →
     Type 0) (holds : (parts : SheetParts) → Ends parts (Ok print) → Holds parts) where
   one_of_by : (gave : Result SheetParts Refusal) → ReadsSheet name before now gave → After Ends gave (Ok print) →
-      OfOneFile name before.files before.log now.log Holds
+      OfOneFile name before.files before.log now.log (λ bytes. Holds)
   one_of_by (Ok parts) sheet after =
       let from : Gave source.Sheet name (λ bytes. Gives (sheet_by bytes)) before now parts = gave_from source.Sheet name _ before now parts sheet in
       record { bytes = from.bytes; read = from.read; sheet = parts; is_sheet = sheet_is _ parts from.ends; holds = holds parts after }
   one_of_by (Err refusal) sheet after = absurd (cc)
 
-  one_of : OneFile name Ends before now (Ok print) → OfOneFile name before.files before.log now.log Holds
+  one_of : OneFile name Ends before now (Ok print) → OfOneFile name before.files before.log now.log (λ bytes. Holds)
   one_of one = one_of_by one.gave one.sheet one.after
 
 module _ (sheet_name : List ℕ) (which : Source) (name : List ℕ) (Ends : SheetParts → List ℕ → Ending →
     Type 0) (before now : ShelfAt) (print : Printed) (Holds : SheetParts → List ℕ → Type 0)
     (holds : (parts : SheetParts) (bytes : List ℕ) → Ends parts bytes (Ok print) → Holds parts bytes) where
   two_of_by : (middle : ShelfAt) (gave : Result SheetParts Refusal) → ReadsSheet sheet_name before middle gave →
-      ReadsNext which name Ends gave middle now (Ok print) → OfTwoFiles sheet_name which name before.files before.log now.log Holds
+      ReadsNext which name Ends gave middle now (Ok print) → OfTwoFiles sheet_name which name before.files before.log now.log (λ sheet_bytes. Holds)
   two_of_by middle (Ok parts) sheet next =
       let from : Gave source.Sheet sheet_name (λ bytes. Gives (sheet_by bytes)) before middle parts =
       gave_from source.Sheet sheet_name _ before middle parts sheet in
@@ -89,7 +94,7 @@ module _ (sheet_name : List ℕ) (which : Source) (name : List ℕ) (Ends : Shee
       }
   two_of_by middle (Err refusal) sheet next = absurd (cc (next.1))
 
-  two_of : TwoFiles sheet_name which name Ends before now (Ok print) → OfTwoFiles sheet_name which name before.files before.log now.log Holds
+  two_of : TwoFiles sheet_name which name Ends before now (Ok print) → OfTwoFiles sheet_name which name before.files before.log now.log (λ sheet_bytes. Holds)
   two_of two = two_of_by two.middle two.gave two.sheet two.next
 
 -- what is printed is true
@@ -133,6 +138,7 @@ Shut is_open (Err (Limit which)) = Unit {0}
 Shut is_open (Err (Points name)) = Unit {0}
 Shut is_open (Err Jobs) = Unit {0}
 Shut is_open (Err Segments) = Unit {0}
+Shut is_open (Err LongUpgrade) = Unit {0}
 Shut is_open (Err Memory) = Unit {0}
 
 gives_shut : {A : Type 0} (answer : Result A Refusal) (is_open : Bool) (result : Result A Refusal) → Gives answer result → Shut is_open result
@@ -145,6 +151,7 @@ gives_shut answer is_open (Err (Limit which)) gives = tt
 gives_shut answer is_open (Err (Points name)) gives = tt
 gives_shut answer is_open (Err Jobs) gives = tt
 gives_shut answer is_open (Err Segments) gives = tt
+gives_shut answer is_open (Err LongUpgrade) gives = tt
 gives_shut answer is_open (Err Memory) gives = tt
 
 -- the files stay, the count of faults has not fallen, and nothing is open where a file could not be read
@@ -164,6 +171,7 @@ reading_shut which name before now (Text at line) reading = tt
 reading_shut which name before now (Points task) reading = tt
 reading_shut which name before now Jobs reading = tt
 reading_shut which name before now Segments reading = tt
+reading_shut which name before now LongUpgrade reading = tt
 
 shut_same : (A B : Type 0) (is_open : Bool) (refusal : Refusal) → Shut {A = A} is_open (Err refusal) → Shut {A = B} is_open (Err refusal)
 shut_same A B is_open Usage shut = tt
@@ -174,6 +182,7 @@ shut_same A B is_open (Limit which) shut = tt
 shut_same A B is_open (Points name) shut = tt
 shut_same A B is_open Jobs shut = tt
 shut_same A B is_open Segments shut = tt
+shut_same A B is_open LongUpgrade shut = tt
 shut_same A B is_open Memory shut = tt
 
 module _ {A : Type 0} (which : Source) (name : List ℕ) (Ends : List ℕ → Result A Refusal → Type 0) (before now : ShelfAt)
@@ -183,7 +192,7 @@ module _ {A : Type 0} (which : Source) (name : List ℕ) (Ends : List ℕ → Re
   reads_shut (Ok bytes) reading after = gives_shut (answer bytes) now.is_open result (gives bytes after)
   reads_shut (Err refusal) reading after = rw after (shut_same (Unit {0}) A now.is_open refusal (reading_shut which name before now refusal reading))
 
-  reads_leave : Reads which name Ends before now result → Leaves before now result
+  pub reads_leave : Reads which name Ends before now result → Leaves before now result
   reads_leave reads = record { files = reads.reading.files; later = reads.reading.later; shut = reads_shut reads.gave reads.reading reads.after }
 
 sheet_leaves : (name : List ℕ) (before now : ShelfAt) (result : Result SheetParts Refusal) → ReadsSheet name before now result → Leaves before now result

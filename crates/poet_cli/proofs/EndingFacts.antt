@@ -1,5 +1,5 @@
 -- What the top call says, from how its command ended and how that was told.
-use Rattle.std.proofs.Common.{◌≡◌, ◌≢◌, ℕ, ◌≤◌, ◌⊎◌, ◌↔◌, inl, inr, Bool, false, List, Option, Some, None, Result, Ok, Err, IsOk, IfOk, IfErr, refl}
+use Rattle.std.proofs.Common.{◌≡◌, ◌≢◌, ℕ, ◌≤◌, ◌⊎◌, ◌↔◌, inl, inr, List, Ok, Err, IsOk, IfOk, IfErr, refl}
 use Rattle.std.proofs.Common.{sym, ◌∙◌, ap, arith}
 use Rattle.poet_io.specs.Faults.{Rose}
 use Rattle.poet_io.specs.Shelves.{Files, IfTold, IsTold}
@@ -9,15 +9,15 @@ use Rattle.poet_cli.specs.declared.printed.Printed.{Printed}
 use Rattle.poet_cli.specs.declared.printed.Printed.TheVariants.{Done, JudgedNo}
 use Rattle.poet_cli.specs.declared.refusal.Source.{Source}
 use Rattle.poet_cli.specs.declared.refusal.Refusal.{Refusal}
-use Rattle.poet_cli.specs.declared.refusal.Refusal.TheVariants.{Usage, Read, Sheet, Text, Limit, Points, Jobs, Segments, Memory}
+use Rattle.poet_cli.specs.declared.refusal.Refusal.TheVariants.{Usage, Read, Sheet, Text, Limit, Points, Jobs, Segments, LongUpgrade, Memory}
 use Rattle.poet_cli.specs.Refusals.{refusal_status, line_of, write_failed}
-use Rattle.poet_cli.specs.Endings.{Ending, printed_status, printed_text, ending_status, out_text, err_text, IsSound}
+use Rattle.poet_cli.specs.Endings.{Ending, printed_status, ending_status, out_text, IsSound}
 use Rattle.poet_cli.specs.Readings.{ShelfAt}
 use Rattle.poet_cli.specs.Origins.{WasPrinted}
 use Rattle.poet_cli.proofs.FoundFacts.{Denied, Found}
-use Rattle.poet_cli.specs.Clauses.{Outlets, ToldText, ToldFault, ToldLine, Told, IsReadLine, SaysWhy, Answers}
+use Rattle.poet_cli.specs.Clauses.{Outlets, ToldText, ToldFault, ToldLine, Told, Answers}
 
-printed_few : (p : Printed) → printed_status p ≤ 1
+pub printed_few : (p : Printed) → printed_status p ≤ 1
 printed_few (Done text) = omega arith
 printed_few (JudgedNo text) = omega arith
 
@@ -170,6 +170,8 @@ module _ (answer : Files → Ending) (may : Refusal → Type 0) (before now : Sh
       (λ e. absurd (omega (arith, e))) (λ e. absurd (omega (arith, e))) wrote
   refused_answers Segments m d wrote = plain_answers Segments m d (omega arith) (omega arith) (λ e. absurd (omega (arith, e)))
       (λ e. absurd (omega (arith, e))) (λ e. absurd (omega (arith, e))) wrote
+  refused_answers LongUpgrade m d wrote = plain_answers LongUpgrade m d (omega arith) (omega arith) (λ e. absurd (omega (arith, e)))
+      (λ e. absurd (omega (arith, e))) (λ e. absurd (omega (arith, e))) wrote
   refused_answers Memory m d wrote = memory_answers m wrote
 
   -- the clause `answers`
@@ -187,6 +189,7 @@ usage_is (Limit which) e = absurd (omega (arith, e))
 usage_is (Points name) e = absurd (omega (arith, e))
 usage_is Jobs e = absurd (omega (arith, e))
 usage_is Segments e = absurd (omega (arith, e))
+usage_is LongUpgrade e = absurd (omega (arith, e))
 usage_is Memory e = absurd (omega (arith, e))
 
 -- status 2 is the refusal of words outside the grammar
@@ -214,6 +217,7 @@ refusal_low (Limit which) = omega arith
 refusal_low (Points name) = omega arith
 refusal_low Jobs = omega arith
 refusal_low Segments = omega arith
+refusal_low LongUpgrade = omega arith
 refusal_low Memory = omega arith
 
 -- the clause `headline`
@@ -246,4 +250,5 @@ read_told (Err (Limit which)) s t status wrote e = absurd (omega (arith, wrote.s
 read_told (Err (Points name)) s t status wrote e = absurd (omega (arith, wrote.status_is, e))
 read_told (Err Jobs) s t status wrote e = absurd (omega (arith, wrote.status_is, e))
 read_told (Err Segments) s t status wrote e = absurd (omega (arith, wrote.status_is, e))
+read_told (Err LongUpgrade) s t status wrote e = absurd (omega (arith, wrote.status_is, e))
 read_told (Err Memory) s t status wrote e = absurd (omega (arith, wrote.status_is, e))

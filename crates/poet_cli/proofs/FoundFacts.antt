@@ -1,6 +1,6 @@
 -- What a command ends with, where the shelf tells its files.
-use Rattle.std.proofs.Common.{◌≡◌, ◌<◌, ◌≤◌, ◌⊎◌, inl, inr, ℕ, List, length, Option, Some, None, Result, Ok, Err, nat_le, if◌then◌else◌, true, false}
-use Rattle.std.proofs.Common.{refl, sym, ap, subst, ◌∙◌, arith}
+use Rattle.std.proofs.Common.{◌≡◌, ◌<◌, ◌≤◌, ◌⊎◌, inl, inr, ℕ, List, length, Option, Some, None, Result, Ok, Err, nat_le, true, false}
+use Rattle.std.proofs.Common.{refl, ap, subst, ◌∙◌, arith}
 use Rattle.std.proofs.lemmas.Bool.Decides.{nat_tests}
 use Rattle.poet_io.specs.Faults.{Rose}
 use Rattle.poet_io.specs.Shelves.{Files, IfTold, IsTold}
@@ -9,13 +9,13 @@ use Rattle.task_sheet.specs.SheetParts.{SheetParts}
 use Rattle.poet_cli.specs.declared.refusal.Source.{Source}
 use Rattle.poet_cli.specs.declared.refusal.Source.TheVariants as source
 use Rattle.poet_cli.specs.declared.refusal.Refusal.{Refusal}
-use Rattle.poet_cli.specs.declared.refusal.Refusal.TheVariants.{Usage, Read, Sheet, Text, Limit, Points, Jobs, Segments, Memory}
+use Rattle.poet_cli.specs.declared.refusal.Refusal.TheVariants.{Usage, Read, Sheet, Text, Limit, Points, Jobs, Segments, LongUpgrade, Memory}
 use Rattle.poet_cli.specs.Refusals.{limit_of}
 use Rattle.poet_cli.specs.Endings.{Ending, next}
 use Rattle.poet_cli.specs.Answers.{within, file_in, sheet_by, sheet_in}
 use Rattle.poet_cli.specs.Words.{Asked}
 use Rattle.poet_cli.specs.Readings.{ShelfAt, IsLongerThan, IsFileReading}
-use Rattle.poet_cli.specs.Steps.{Gives, After, Reads, ReadsSheet, NoFile, OneFile, ReadsNext, TwoFiles}
+use Rattle.poet_cli.specs.Steps.{Gives, After, Reads, ReadsSheet, OneFile, ReadsNext, TwoFiles}
 use Rattle.poet_cli.specs.Program.{Plan, Alone, OverFile, OverSheet, OverBoth, over_sheet, over_both, plan_of, plan_answer, PlanDoes, answer_of, Does}
 
 -- why a step was refused, where its answer is this function of the files
@@ -28,6 +28,7 @@ Denied answer told before now (Limit which) = IfTold told (λ files. answer file
 Denied answer told before now (Points name) = IfTold told (λ files. answer files ≡ Err (Points name))
 Denied answer told before now Jobs = IfTold told (λ files. answer files ≡ Err Jobs)
 Denied answer told before now Segments = IfTold told (λ files. answer files ≡ Err Segments)
+Denied answer told before now LongUpgrade = IfTold told (λ files. answer files ≡ Err LongUpgrade)
 Denied answer told before now Memory = Unit {0}
 
 -- what a step gives, where its answer is this function of the files
@@ -47,6 +48,7 @@ module _ {A : Type 0} (answer : Files → Result A Refusal) (one : Result A Refu
   given (Err (Points name)) h e = if_told_map told _ _ (λ x s. s ∙ e) h
   given (Err Jobs) h e = if_told_map told _ _ (λ x s. s ∙ e) h
   given (Err Segments) h e = if_told_map told _ _ (λ x s. s ∙ e) h
+  given (Err LongUpgrade) h e = if_told_map told _ _ (λ x s. s ∙ e) h
   given (Err Memory) h e = tt
 
 module _ {A B : Type 0} (first : Files → Result A Refusal) (rest : A → Files → Result B Refusal) (told : Option Files) where
@@ -63,6 +65,7 @@ module _ {A B : Type 0} (first : Files → Result A Refusal) (rest : A → Files
   found_not f g (Points name) d = if_told_map told _ _ (λ x s. rw s refl) d
   found_not f g Jobs d = if_told_map told _ _ (λ x s. rw s refl) d
   found_not f g Segments d = if_told_map told _ _ (λ x s. rw s refl) d
+  found_not f g LongUpgrade d = if_told_map told _ _ (λ x s. rw s refl) d
   found_not f g Memory d = tt
 
   -- the first step gave this
@@ -78,6 +81,7 @@ module _ {A B : Type 0} (first : Files → Result A Refusal) (rest : A → Files
   found_next f h g le a is (Err (Points name)) d = if_told_map_two told _ _ _ (λ x s t. rw s t) is d
   found_next f h g le a is (Err Jobs) d = if_told_map_two told _ _ _ (λ x s t. rw s t) is d
   found_next f h g le a is (Err Segments) d = if_told_map_two told _ _ _ (λ x s t. rw s t) is d
+  found_next f h g le a is (Err LongUpgrade) d = if_told_map_two told _ _ _ (λ x s t. rw s t) is d
   found_next f h g le a is (Err Memory) d = tt
 
 pub within_few : (which : Source) (bytes : List ℕ) → length bytes ≤ limit_of which → within which (Some bytes) ≡ Ok bytes
@@ -102,6 +106,7 @@ reading_found which name before now (Err (Text at line)) r = absurd r.calls
 reading_found which name before now (Err (Points task)) r = absurd r.calls
 reading_found which name before now (Err Jobs) r = absurd r.calls
 reading_found which name before now (Err Segments) r = absurd r.calls
+reading_found which name before now (Err LongUpgrade) r = absurd r.calls
 
 module _ {A : Type 0} (which : Source) (name : List ℕ) (Ends : List ℕ → Result A Refusal → Type 0) (answer : List ℕ →
     Result A Refusal) (before now : ShelfAt) (result : Result A Refusal)
@@ -116,7 +121,7 @@ module _ {A : Type 0} (which : Source) (name : List ℕ) (Ends : List ℕ → Re
       rw after (found_not (file_in which name) (λ bytes x. answer bytes) before.files before.faults now.faults refusal
       (reading_found which name before now (Err refusal) reading))
 
-  reads_found : Reads which name Ends before now result → Found (λ x. next (file_in which name x) answer) before.files before.faults now.faults result
+  pub reads_found : Reads which name Ends before now result → Found (λ x. next (file_in which name x) answer) before.files before.faults now.faults result
   reads_found reads = reads_by reads.gave reads.reading reads.after
 
 pub sheet_found : (name : List ℕ) (before now : ShelfAt) (result : Result SheetParts Refusal) →

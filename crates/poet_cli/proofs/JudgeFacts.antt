@@ -1,5 +1,5 @@
 -- What is printed of a certificate that is accepted.
-use Rattle.std.proofs.Common.{◌≡◌, ℕ, Bool, true, false, List, length, Option, Some, None, Result, Ok, Err, ◌≤◌, nat_le, if◌then◌else◌, refl, ap, ◌∙◌, arith}
+use Rattle.std.proofs.Common.{◌≡◌, ℕ, false, List, Option, Some, None, Result, Ok, Err, refl, ap}
 use Rattle.poet_io.specs.declared.text_refusal.TextRefusal.{TextRefusal}
 use Rattle.poet_io.specs.declared.text_refusal.TextRefusal.TheVariants as texts
 use Rattle.task_sheet.specs.SheetParts.{SheetParts}
@@ -14,7 +14,7 @@ use Rattle.cert_check.specs.declared.judging.Verdict.TheVariants as verdict
 use Rattle.cert_check.specs.Verdicts.{bounds_of, judged_as, verdict_by, cert_verdict_of}
 use Rattle.poet_cli.specs.declared.printed.Printed.TheVariants as printed
 use Rattle.poet_cli.specs.declared.refusal.Source.TheVariants as source
-use Rattle.poet_cli.specs.Endings.{Ending, next}
+use Rattle.poet_cli.specs.Endings.{next}
 use Rattle.poet_cli.specs.Printing.{accepted_text}
 use Rattle.poet_cli.specs.Headline.{accepted_for}
 use Rattle.poet_cli.specs.Answers.{text_read, failed_for, judged_by, judge_by, best_for}

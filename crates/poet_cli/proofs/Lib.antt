@@ -10,3 +10,9 @@ mod LengthFacts
 mod AnalysisFacts
 mod SimulationFacts
 mod JudgeFacts
+pub mod UpgradeFacts
+pub mod AssignFacts
+mod TableFacts
+mod DidFacts
+pub mod VerdictFacts
+mod RestFacts

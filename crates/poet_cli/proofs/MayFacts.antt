@@ -8,7 +8,7 @@ use Rattle.task_sheet.specs.declared.refusal.SheetRefusal.TheVariants as sheets
 use Rattle.poet_cli.specs.declared.refusal.Source.{Source}
 use Rattle.poet_cli.specs.declared.refusal.Source.TheVariants as source
 use Rattle.poet_cli.specs.declared.refusal.Refusal.{Refusal}
-use Rattle.poet_cli.specs.declared.refusal.Refusal.TheVariants.{Usage, Read, Sheet, Text, Limit, Points, Jobs, Segments, Memory}
+use Rattle.poet_cli.specs.declared.refusal.Refusal.TheVariants.{Usage, Read, Sheet, Text, Limit, Points, Jobs, Segments, LongUpgrade, Memory}
 use Rattle.poet_cli.specs.Endings.{Ending}
 use Rattle.poet_cli.specs.Answers.{sheet_read, sheet_by, sheet_in}
 use Rattle.poet_cli.specs.Words.{Asked}
@@ -28,6 +28,7 @@ given_refusal answer (Limit which) gives = inr gives
 given_refusal answer (Points name) gives = inr gives
 given_refusal answer Jobs gives = inr gives
 given_refusal answer Segments gives = inr gives
+given_refusal answer LongUpgrade gives = inr gives
 given_refusal answer Memory gives = inl refl
 
 module _ (IsRead : Source → Type 0) (IsOwn : Refusal → Type 0) where
@@ -50,6 +51,7 @@ module _ (IsRead : Source → Type 0) (IsOwn : Refusal → Type 0) where
   may_reading which name before now (Points task) is reading = absurd reading.calls
   may_reading which name before now Jobs is reading = absurd reading.calls
   may_reading which name before now Segments is reading = absurd reading.calls
+  may_reading which name before now LongUpgrade is reading = absurd reading.calls
 
   module _ {A : Type 0} (which : Source) (name : List ℕ) (Ends : List ℕ → Result A Refusal → Type 0) (before now : ShelfAt)
       (refusal : Refusal) (is : IsRead which) (may : (bytes : List ℕ) → Ends bytes (Err refusal) → May refusal) where
@@ -59,7 +61,7 @@ module _ (IsRead : Source → Type 0) (IsOwn : Refusal → Type 0) where
         let same : other ≡ refusal = cc in
         subst May same (may_reading which name before now other is reading)
 
-    may_reads : Reads which name Ends before now (Err refusal) → May refusal
+    pub may_reads : Reads which name Ends before now (Err refusal) → May refusal
     may_reads reads = may_reads_by reads.gave reads.reading reads.after
 
   sheet_refusal : IsRead source.Sheet → (read : Result SheetParts SheetRefusal) (refusal : Refusal) → sheet_read read ≡ Err refusal → May refusal
@@ -75,6 +77,7 @@ module _ (IsRead : Source → Type 0) (IsOwn : Refusal → Type 0) where
       cc in subst May same (is, λ m. absurd (cc))
   sheet_refusal is (Err (sheets.Order place field)) refusal e = let same : Sheet (sheets.Order place field) ≡ refusal =
       cc in subst May same (is, λ m. absurd (cc))
+  sheet_refusal is (Err sheets.Mixed) refusal e = let same : Sheet sheets.Mixed ≡ refusal = cc in subst May same (is, λ m. absurd (cc))
   sheet_refusal is (Err (sheets.Both task)) refusal e = let same : Sheet (sheets.Both task) ≡ refusal = cc in subst May same (is, λ m. absurd (cc))
   sheet_refusal is (Err (sheets.Twice task)) refusal e = let same : Sheet (sheets.Twice task) ≡ refusal = cc in subst May same (is, λ m. absurd (cc))
   sheet_refusal is (Err (sheets.Sum task)) refusal e = let same : Sheet (sheets.Sum task) ≡ refusal = cc in subst May same (is, λ m. absurd (cc))
@@ -95,6 +98,7 @@ module _ (IsRead : Source → Type 0) (IsOwn : Refusal → Type 0) where
   may_of IsText read (Points name) of = of
   may_of IsText read Jobs of = of
   may_of IsText read Segments of = of
+  may_of IsText read LongUpgrade of = of
   may_of IsText read Memory of = tt
 
   module _ (is : IsRead source.Sheet) (name : List ℕ) (Ends : SheetParts → Ending → Type 0) (before now : ShelfAt)

@@ -1,5 +1,5 @@
 -- The names that a command opened, from its steps.
-use Rattle.std.proofs.Common.{◌≡◌, ◌⊎◌, inl, inr, ℕ, Bool, true, List, [], ◌∷◌, ◌++◌, map, Option, Some, None, Result, Ok, Err, refl, sym, ap, ◌∙◌}
+use Rattle.std.proofs.Common.{◌≡◌, inl, inr, ℕ, true, List, [], ◌∷◌, ◌++◌, map, Option, Some, None, Result, Ok, Err, refl, sym, ap, ◌∙◌}
 use Rattle.std.proofs.Common.{append_assoc, append-nil}
 use Rattle.poet_io.specs.declared.log.Event.{Event}
 use Rattle.poet_io.specs.declared.log.Event.TheVariants as event
@@ -10,7 +10,7 @@ use Rattle.task_sheet.specs.SheetParts.{SheetParts}
 use Rattle.poet_cli.specs.declared.refusal.Source.{Source}
 use Rattle.poet_cli.specs.declared.refusal.Source.TheVariants as source
 use Rattle.poet_cli.specs.declared.refusal.Refusal.{Refusal}
-use Rattle.poet_cli.specs.declared.refusal.Refusal.TheVariants.{Usage, Read, Sheet, Text, Limit, Points, Jobs, Segments, Memory}
+use Rattle.poet_cli.specs.declared.refusal.Refusal.TheVariants.{Usage, Read, Sheet, Text, Limit, Points, Jobs, Segments, LongUpgrade, Memory}
 use Rattle.poet_cli.specs.Endings.{Ending}
 use Rattle.poet_cli.specs.Words.{Asked}
 use Rattle.poet_cli.specs.Refusals.{limit_of}
@@ -81,6 +81,7 @@ reading_opens which name before now (Err (Text at line)) reading = absurd readin
 reading_opens which name before now (Err (Points task)) reading = absurd reading.calls
 reading_opens which name before now (Err Jobs) reading = absurd reading.calls
 reading_opens which name before now (Err Segments) reading = absurd reading.calls
+reading_opens which name before now (Err LongUpgrade) reading = absurd reading.calls
 
 none_opens : (names : List (List ℕ)) (before now : ShelfAt) → now ≡ before → OpensFront names before.log now.log
 none_opens names before now none =
@@ -92,7 +93,7 @@ none_opens names before now none =
           record { calls = []; since = ap (λ x. x.log) none ∙ sym (append-nil before.log); names_are = refl };
     }
 
-file_opens : (which : Source) (name : List ℕ) (Ends : List ℕ → Ending → Type 0) (before now : ShelfAt) (ending : Ending) →
+pub file_opens : (which : Source) (name : List ℕ) (Ends : List ℕ → Ending → Type 0) (before now : ShelfAt) (ending : Ending) →
     Reads which name Ends before now ending → OpensFront (name ∷ []) before.log now.log
 file_opens which name Ends before now ending reads =
     record { front = name ∷ []; rest = []; whole = refl; opens = reading_opens which name before now reads.gave reads.reading }

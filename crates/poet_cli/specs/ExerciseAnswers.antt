@@ -1,5 +1,5 @@
 -- The answer of an exercise.
-use Rattle.std.specs.Prelude.{◌≡◌, ℕ, List, ◌++◌, codes, Ok}
+use Rattle.std.specs.Prelude.{ℕ, List, ◌++◌, codes, Ok}
 use Rattle.exercise.specs.declared.outcome.Exercise.{Exercise}
 use Rattle.exercise.specs.Exercises.{exercise_of}
 use Rattle.poet_cli.specs.declared.printed.Printed.TheVariants.{Done}

@@ -6,6 +6,9 @@ pub mod RunPrinting
 pub mod Answers
 pub mod RunAnswers
 pub mod ExerciseAnswers
+pub mod UpgradeAnswers
+pub mod AssignAnswers
+pub mod PromiseAnswers
 pub mod CurveAnswers
 pub mod Readings
 pub mod Steps
@@ -18,4 +21,6 @@ pub mod Objections
 pub mod Refusing
 pub mod Works
 pub mod Program
+pub mod TableHeadline
 pub mod Clauses
+pub mod CertVerdicts

@@ -16,18 +16,19 @@ pub record OfFile (which : Source) (name : List ℕ) (told : Option Files) (befo
   pub read : WasRead which name told before now bytes
   pub holds : Holds bytes
 
--- the bytes of one file were read and are a sheet, and this holds of it
+-- the bytes of one file were read and are a sheet, and this holds of them and of it
 pub record OfOneFile (name : List ℕ) (told : Option Files) (before now : List Event)
-    (Holds : SheetParts → Type 0) : Type 0 where
+    (Holds : List ℕ → SheetParts → Type 0) : Type 0 where
   pub bytes : List ℕ
   pub read : WasRead source.Sheet name told before now bytes
   pub sheet : SheetParts
   pub is_sheet : sheet_of_text bytes ≡ Ok sheet
-  pub holds : Holds sheet
+  pub holds : Holds bytes sheet
 
--- the bytes of two files were read, one after the other; the first are a sheet, and this holds of it and the other bytes
+-- two files were read in turn: the bytes of the first are a sheet, and this holds of them, of it and of the second's
 pub record OfTwoFiles (sheet_name : List ℕ) (which : Source) (name : List ℕ) (told : Option Files)
-    (before now : List Event) (Holds : SheetParts → List ℕ → Type 0) : Type 0 where
+    (before now : List Event) (Holds : List ℕ → SheetParts → List ℕ → Type 0)
+    : Type 0 where
   pub sheet_bytes : List ℕ
   pub middle : List Event
   pub sheet_read : WasRead source.Sheet sheet_name told before middle sheet_bytes
@@ -35,7 +36,7 @@ pub record OfTwoFiles (sheet_name : List ℕ) (which : Source) (name : List ℕ)
   pub is_sheet : sheet_of_text sheet_bytes ≡ Ok sheet
   pub bytes : List ℕ
   pub read : WasRead which name told middle now bytes
-  pub holds : Holds sheet bytes
+  pub holds : Holds sheet_bytes sheet bytes
 
 -- a text was written, and this holds of it
 pub record WasPrinted (before now : List ℕ) (Holds : List ℕ → Type 0) : Type 0 where

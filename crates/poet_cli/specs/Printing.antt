@@ -4,7 +4,7 @@ use Rattle.task_sheet.specs.declared.tasks.Task.{Task}
 use Rattle.task_sheet.specs.SheetParts.{SheetParts}
 use Rattle.task_sheet.specs.Sheets.{task_at}
 use Rattle.conditions.specs.declared.failed.Cond.{Cond}
-use Rattle.conditions.specs.declared.failed.Cond.TheVariants.{K1, K2, K3, K4, K5, K6, K7, K8, K9}
+use Rattle.conditions.specs.declared.failed.Cond.TheVariants.{K1, K2, K3, K4, K5, K6, K7, K8, K9, K10}
 use Rattle.conditions.specs.declared.failed.Failed.{Failed}
 use Rattle.solver.specs.declared.analysis.Part.{Part}
 use Rattle.solver.specs.declared.analysis.Part.TheVariants.{Window, Bound}
@@ -46,6 +46,7 @@ cond_text K6 = codes "refused K6"
 cond_text K7 = codes "refused K7"
 cond_text K8 = codes "refused K8"
 cond_text K9 = codes "refused K9"
+cond_text K10 = codes "refused K10"
 
 abbrev pub task_text : SheetParts → Option ℕ → List ℕ
 task_text sheet None = []

@@ -7,7 +7,7 @@ use Rattle.poet_cli.specs.declared.refusal.Source.{Source}
 use Rattle.poet_cli.specs.declared.refusal.Source.TheVariants as source
 use Rattle.poet_cli.specs.declared.refusal.Refusal.{Refusal}
 use Rattle.poet_cli.specs.declared.refusal.Refusal.TheVariants.{Usage}
-use Rattle.poet_cli.specs.Words.{Asked, CheckOf, AnalyseOf, SimulateOf, AuditOf, ReportOf, ExerciseOf, InferOf}
+use Rattle.poet_cli.specs.Words.{Asked, CheckOf, AnalyseOf, SimulateOf, AuditOf, ReportOf, ExerciseOf, UpgradeOf, AssignOf, PromiseOf, InferOf}
 use Rattle.poet_cli.specs.Endings.{Ending, next}
 use Rattle.poet_cli.specs.Answers.{file_in, sheet_in}
 use Rattle.poet_cli.specs.ReportAnswers.{report_of}
@@ -15,8 +15,8 @@ use Rattle.poet_cli.specs.Headline.{accepted_for}
 use Rattle.poet_cli.specs.Readings.{ShelfAt}
 use Rattle.poet_cli.specs.Steps.{Reads, NoFile, OneFile, TwoFiles}
 use Rattle.poet_cli.specs.Origins.{OfFile, OfOneFile, OfTwoFiles}
-use Rattle.poet_cli.specs.Refusing.{NoText, IsTextOf, IsNoRefusal, IsPointsRefusal, IsRunRefusal, MayRefuse, NoSource, IsThis, IsSheet, IsSheetOr}
-use Rattle.poet_cli.specs.Works.{Work, judge_work, analyse_work, simulate_work, audit_work, exercise_work, infer_work, Judges}
+use Rattle.poet_cli.specs.Refusing.{NoText, IsTextOf, IsNoRefusal, IsPointsRefusal, IsRunRefusal, IsUpgradeRefusal, MayRefuse, NoSource, IsThis, IsSheet, IsSheetOr}
+use Rattle.poet_cli.specs.Works.{Work, judge_work, analyse_work, simulate_work, audit_work, exercise_work, upgrade_work, assign_work, promise_work, infer_work, Judges}
 
 -- which files a command reads, the refusals of its own, and its work over what it read
 pub data Plan : Type 1 where
@@ -35,6 +35,10 @@ plan_of (AuditOf sheet run) = OverBoth sheet source.Run run IsNoRefusal audit_wo
 plan_of (ReportOf sheet certificate form) =
     OverBoth sheet source.Certificate certificate IsNoRefusal (judge_work (report_of form) false)
 plan_of (ExerciseOf seed tasks) = Alone IsNoRefusal (exercise_work seed tasks)
+plan_of (UpgradeOf sheet certificate) =
+    OverBoth sheet source.Certificate certificate IsUpgradeRefusal upgrade_work
+plan_of (AssignOf sheet horizon) = OverSheet sheet IsNoRefusal (assign_work horizon)
+plan_of (PromiseOf sheet) = OverSheet sheet IsNoRefusal promise_work
 plan_of (InferOf trace horizon) = OverFile source.Trace trace IsNoRefusal (infer_work horizon)
 
 -- the files that it reads
@@ -106,9 +110,10 @@ PlanSays Part (Alone IsOwn work) told before now text = Part work text
 PlanSays Part (OverFile which name IsOwn work) told before now text =
     OfFile which name told before now (λ bytes. Part (work bytes) text)
 PlanSays Part (OverSheet name IsOwn work) told before now text =
-    OfOneFile name told before now (λ parts. Part (work parts) text)
+    OfOneFile name told before now (λ sheet_bytes parts. Part (work parts) text)
 PlanSays Part (OverBoth sheet which name IsOwn work) told before now text =
-    OfTwoFiles sheet which name told before now (λ parts bytes. Part (work parts bytes) text)
+    OfTwoFiles sheet which name told before now
+    (λ sheet_bytes parts bytes. Part (work parts bytes) text)
 
 -- what status 0 says of the bytes that were read and of the text
 abbrev pub Headline : Option Asked → Option Files → List Event → List Event → List ℕ → Type 0
@@ -116,7 +121,7 @@ Headline None told before now text = ⊥
 Headline (Some asked) told before now text =
     PlanSays (λ work. work.holds) (plan_of asked) told before now text
 
--- what status 1 says of them; simulate, exercise and infer never answer it
+-- what status 1 says of them; simulate, exercise, promise and infer never answer it
 abbrev pub Objection : Option Asked → Option Files → List Event → List Event → List ℕ → Type 0
 Objection None told before now text = ⊥
 Objection (Some asked) told before now text =

@@ -7,7 +7,7 @@ use Rattle.poet_io.specs.Faults.{Rose}
 use Rattle.poet_io.specs.Shelves.{Files, IfTold, IsAbsent}
 use Rattle.poet_cli.specs.declared.refusal.Source.{Source}
 use Rattle.poet_cli.specs.declared.refusal.Refusal.{Refusal}
-use Rattle.poet_cli.specs.declared.refusal.Refusal.TheVariants.{Usage, Read, Sheet, Text, Limit, Points, Jobs, Segments, Memory}
+use Rattle.poet_cli.specs.declared.refusal.Refusal.TheVariants.{Usage, Read, Sheet, Text, Limit, Points, Jobs, Segments, LongUpgrade, Memory}
 use Rattle.poet_cli.specs.Refusals.{limit_of}
 
 -- a shelf at a moment
@@ -59,6 +59,7 @@ ReadCalls which name before now (Err (Text at line)) = ⊥
 ReadCalls which name before now (Err (Points task)) = ⊥
 ReadCalls which name before now (Err Jobs) = ⊥
 ReadCalls which name before now (Err Segments) = ⊥
+ReadCalls which name before now (Err LongUpgrade) = ⊥
 
 -- one reading of a file gave this
 pub record IsFileReading (which : Source) (name : List ℕ) (before now : ShelfAt)

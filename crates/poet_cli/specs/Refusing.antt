@@ -5,7 +5,7 @@ use Rattle.task_sheet.specs.declared.refusal.SheetRefusal.TheVariants as sheets
 use Rattle.poet_cli.specs.declared.refusal.Source.{Source}
 use Rattle.poet_cli.specs.declared.refusal.Source.TheVariants as source
 use Rattle.poet_cli.specs.declared.refusal.Refusal.{Refusal}
-use Rattle.poet_cli.specs.declared.refusal.Refusal.TheVariants.{Usage, Read, Sheet, Text, Limit, Points, Jobs, Segments, Memory}
+use Rattle.poet_cli.specs.declared.refusal.Refusal.TheVariants.{Usage, Read, Sheet, Text, Limit, Points, Jobs, Segments, LongUpgrade, Memory}
 use Rattle.poet_cli.specs.Answers.{sheet_in}
 
 -- a refusal of what was read: of a text of these, one of the command's own, or want of memory
@@ -18,6 +18,7 @@ IsOf IsText IsOwn (Limit which) = ⊥
 IsOf IsText IsOwn (Points name) = IsOwn (Points name)
 IsOf IsText IsOwn Jobs = IsOwn Jobs
 IsOf IsText IsOwn Segments = IsOwn Segments
+IsOf IsText IsOwn LongUpgrade = IsOwn LongUpgrade
 IsOf IsText IsOwn Memory = Unit {0}
 
 -- no text is refused, or the text of this file, which is no sheet
@@ -27,7 +28,7 @@ NoText which = ⊥
 abbrev pub IsTextOf : Source → Source → Type 0
 IsTextOf other which = (which ≡ other) × (which ≢ source.Sheet)
 
--- the refusals of a command's own: none, too many points, or too long a run
+-- the refusals of a command's own: none, too many points, too long a run, or too long a certificate to print
 abbrev pub IsNoRefusal : Refusal → Type 0
 IsNoRefusal refusal = ⊥
 
@@ -40,6 +41,10 @@ IsRunRefusal Jobs = Unit {0}
 IsRunRefusal Segments = Unit {0}
 IsRunRefusal refusal = ⊥
 
+abbrev pub IsUpgradeRefusal : Refusal → Type 0
+IsUpgradeRefusal LongUpgrade = Unit {0}
+IsUpgradeRefusal refusal = ⊥
+
 -- a command that reads these files, and has these refusals of its own, can be refused so
 abbrev pub MayRefuse : (Source → Type 0) → (Refusal → Type 0) → Refusal → Type 0
 MayRefuse IsRead IsOwn Usage = ⊥
@@ -50,6 +55,7 @@ MayRefuse IsRead IsOwn (Limit which) = IsRead which
 MayRefuse IsRead IsOwn (Points name) = IsOwn (Points name)
 MayRefuse IsRead IsOwn Jobs = IsOwn Jobs
 MayRefuse IsRead IsOwn Segments = IsOwn Segments
+MayRefuse IsRead IsOwn LongUpgrade = IsOwn LongUpgrade
 MayRefuse IsRead IsOwn Memory = Unit {0}
 
 -- no file is read; this one; a sheet; and then another file, which is so only where the bytes of the first are a sheet

@@ -1,5 +1,5 @@
 -- What is printed of a verdict on a run.
-use Rattle.std.specs.Prelude.{◌≡◌, ℕ, List, [], ◌∷◌, ◌++◌, length, Option, Some, None, codes}
+use Rattle.std.specs.Prelude.{◌≡◌, ℕ, List, [], ◌∷◌, ◌++◌, length, Option, codes}
 use Rattle.task_sheet.specs.declared.tasks.Task.{Task}
 use Rattle.task_sheet.specs.SheetParts.{SheetParts}
 use Rattle.audit.specs.declared.verdict.Rule.{Rule}

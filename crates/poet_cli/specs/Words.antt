@@ -8,7 +8,7 @@ use Rattle.simulated_run.specs.declared.mode.Mode.TheVariants.{Dense, Seed}
 use Rattle.poet_cli.specs.declared.grammar.Form.{Form}
 use Rattle.poet_cli.specs.declared.grammar.Form.TheVariants as forms
 use Rattle.poet_cli.specs.declared.grammar.Command.{Command}
-use Rattle.poet_cli.specs.declared.grammar.Command.TheVariants.{Check, Analyse, Simulate, Audit, Report, Exercise, Infer}
+use Rattle.poet_cli.specs.declared.grammar.Command.TheVariants.{Check, Analyse, Simulate, Audit, Report, Exercise, Upgrade, Assign, Promise, Infer}
 
 -- a command, with its words
 pub data Asked : Type 0 where
@@ -18,6 +18,9 @@ pub data Asked : Type 0 where
   AuditOf : List ℕ → List ℕ → Asked
   ReportOf : List ℕ → List ℕ → Form → Asked
   ExerciseOf : ℕ → ℕ → Asked
+  UpgradeOf : List ℕ → List ℕ → Asked
+  AssignOf : List ℕ → ℕ → Asked
+  PromiseOf : List ℕ → Asked
   InferOf : List ℕ → ℕ → Asked
 
 -- a horizon, a number of ticks, a number of tasks, and a seed
@@ -60,14 +63,21 @@ abbrev pub seeded_in : List ℕ → Option ℕ → Option ℕ → Option Asked
 seeded_in sheet None ticks = None
 seeded_in sheet (Some seed) ticks = given ticks (SimulateOf sheet (Seed seed))
 
--- check SHEET CERT, analyse SHEET HORIZON, audit SHEET RUN, exercise S N, or infer FILE HORIZON
+-- promise SHEET
+unfoldable pub one_word : List ℕ → List ℕ → Option Asked
+one_word command first = if bytes_eq command (codes "promise") then Some (PromiseOf first) else None
+
+-- check SHEET CERT, analyse SHEET HORIZON, audit SHEET RUN, exercise S N, upgrade SHEET CERT, assign SHEET HORIZON,
+-- or infer FILE HORIZON
 unfoldable pub two_words : List ℕ → List ℕ → List ℕ → Option Asked
 two_words command first second =
     if bytes_eq command (codes "check") then Some (CheckOf first second false)
     else (if bytes_eq command (codes "analyse") then given (horizon_in second) (AnalyseOf first)
     else (if bytes_eq command (codes "audit") then Some (AuditOf first second)
     else (if bytes_eq command (codes "exercise") then exercise_in (seed_in first) (tasks_in second)
-    else (if bytes_eq command (codes "infer") then given (horizon_in second) (InferOf first) else None))))
+    else (if bytes_eq command (codes "upgrade") then Some (UpgradeOf first second)
+    else (if bytes_eq command (codes "assign") then given (horizon_in second) (AssignOf first)
+    else (if bytes_eq command (codes "infer") then given (horizon_in second) (InferOf first) else None))))))
 
 -- check SHEET CERT deadlines, simulate SHEET dense N, or report SHEET CERT text|json
 unfoldable pub three_words : List ℕ → List ℕ → List ℕ → List ℕ → Option Asked
@@ -84,6 +94,7 @@ four_words command first second third fourth =
 
 -- the word grammar
 abbrev pub command_in : List (List ℕ) → Option Asked
+command_in (command ∷ first ∷ []) = one_word command first
 command_in (command ∷ first ∷ second ∷ []) = two_words command first second
 command_in (command ∷ first ∷ second ∷ third ∷ []) = three_words command first second third
 command_in (command ∷ first ∷ second ∷ third ∷ fourth ∷ []) = four_words command first second third fourth
@@ -100,6 +111,9 @@ asked_by (Simulate sheet mode ticks) = SimulateOf sheet.now mode ticks
 asked_by (Audit sheet run) = AuditOf sheet.now run.now
 asked_by (Report sheet certificate form) = ReportOf sheet.now certificate.now form
 asked_by (Exercise seed tasks) = ExerciseOf seed tasks
+asked_by (Upgrade sheet certificate) = UpgradeOf sheet.now certificate.now
+asked_by (Assign sheet horizon) = AssignOf sheet.now horizon
+asked_by (Promise sheet) = PromiseOf sheet.now
 asked_by (Infer trace horizon) = InferOf trace.now horizon
 
 -- the command is what the words ask for
@@ -118,4 +132,7 @@ IsInRange (Simulate sheet mode ticks) = ticks ≤ most_ticks
 IsInRange (Audit sheet run) = Unit {0}
 IsInRange (Report sheet certificate form) = Unit {0}
 IsInRange (Exercise seed tasks) = (1 ≤ tasks) × (tasks ≤ 64)
+IsInRange (Upgrade sheet certificate) = Unit {0}
+IsInRange (Assign sheet horizon) = horizon ≤ greatest_number
+IsInRange (Promise sheet) = Unit {0}
 IsInRange (Infer trace horizon) = (1 ≤ horizon) × (horizon ≤ greatest_number)

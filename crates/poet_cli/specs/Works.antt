@@ -11,8 +11,11 @@ use Rattle.poet_cli.specs.Answers.{judge_by, analyse_by}
 use Rattle.poet_cli.specs.RunAnswers.{simulate_by, audit_by}
 use Rattle.poet_cli.specs.CurveAnswers.{infer_by, InferenceHolds}
 use Rattle.poet_cli.specs.ExerciseAnswers.{exercise_answer}
+use Rattle.poet_cli.specs.UpgradeAnswers.{upgrade_of, upgrade_by, IsUpgrade, IsCountRefusal, UpgradeHolds, CountFails}
+use Rattle.poet_cli.specs.AssignAnswers.{assign_by, OrderHolds, NoOrderHolds}
+use Rattle.poet_cli.specs.PromiseAnswers.{promise_by, PromiseIsPrinted}
 use Rattle.poet_cli.specs.Steps.{Gives}
-use Rattle.poet_cli.specs.Refusing.{IsOf, NoText, IsTextOf, IsNoRefusal, IsPointsRefusal, IsRunRefusal}
+use Rattle.poet_cli.specs.Refusing.{IsOf, NoText, IsTextOf, IsNoRefusal, IsPointsRefusal, IsRunRefusal, IsUpgradeRefusal}
 use Rattle.poet_cli.specs.Analyses.{BestHolds, NoneHolds}
 use Rattle.poet_cli.specs.Headline.{BoundsHold, SimulationHolds, RunHolds, ExerciseIsPrinted}
 use Rattle.poet_cli.specs.Objections.{CertificateFails, RunFails, Never}
@@ -47,6 +50,17 @@ abbrev pub exercise_work : ℕ → ℕ → Work
 exercise_work seed tasks =
     work (exercise_answer seed tasks) (ExerciseIsPrinted seed tasks) Never
 
+abbrev pub upgrade_work : SheetParts → List ℕ → Work
+upgrade_work sheet bytes =
+    work (upgrade_by sheet bytes) (UpgradeHolds sheet bytes) (CountFails sheet bytes)
+
+abbrev pub assign_work : ℕ → SheetParts → Work
+assign_work horizon sheet =
+    work (assign_by horizon sheet) (OrderHolds sheet horizon) (NoOrderHolds sheet horizon)
+
+abbrev pub promise_work : SheetParts → Work
+promise_work sheet = work (promise_by sheet) (PromiseIsPrinted sheet) Never
+
 abbrev pub infer_work : ℕ → List ℕ → Work
 infer_work horizon bytes = work (infer_by horizon bytes) (InferenceHolds horizon bytes) Never
 
@@ -56,6 +70,12 @@ pub record Judges (IsText : Source → Type 0) (IsOwn : Refusal → Type 0) (wor
   pub gives : Gives work.answer ending
   pub sound : IfOk ending (IsSound work.holds work.fails)
   pub refused : IfErr ending (IsOf IsText IsOwn)
+
+-- the work over a certificate that was read
+abbrev pub UpgradeDoesOf : SheetParts → Cert → Ending → Type 0
+UpgradeDoesOf sheet cert =
+    Judges (IsTextOf source.Certificate) IsUpgradeRefusal
+    (work (upgrade_of sheet cert) (IsUpgrade sheet cert) (IsCountRefusal sheet cert))
 
 -- what each command does with what it read
 abbrev pub JudgeDoes : (SheetParts → Cert → List ℕ) → Bool → SheetParts → List ℕ → Ending → Type 0
@@ -73,6 +93,16 @@ AuditDoes sheet bytes = Judges (IsTextOf source.Run) IsNoRefusal (audit_work she
 
 abbrev pub ExerciseDoes : ℕ → ℕ → Ending → Type 0
 ExerciseDoes seed tasks = Judges NoText IsNoRefusal (exercise_work seed tasks)
+
+abbrev pub UpgradeDoes : SheetParts → List ℕ → Ending → Type 0
+UpgradeDoes sheet bytes =
+    Judges (IsTextOf source.Certificate) IsUpgradeRefusal (upgrade_work sheet bytes)
+
+abbrev pub AssignDoes : ℕ → SheetParts → Ending → Type 0
+AssignDoes horizon sheet = Judges NoText IsNoRefusal (assign_work horizon sheet)
+
+abbrev pub PromiseDoes : SheetParts → Ending → Type 0
+PromiseDoes sheet = Judges NoText IsNoRefusal (promise_work sheet)
 
 abbrev pub InferDoes : ℕ → List ℕ → Ending → Type 0
 InferDoes horizon bytes = Judges (IsTextOf source.Trace) IsNoRefusal (infer_work horizon bytes)

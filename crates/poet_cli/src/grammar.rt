@@ -1,6 +1,6 @@
 //! The word grammar.
 ghost use Rattle.std.specs.Prelude.{◌≡◌, [], ◌∷◌, map, string_bytes, IfSome};
-ghost use Rattle.poet_cli.specs.Words.{AnalyseOf, SimulateOf, ReportOf, InferOf, horizon_in, ticks_in, tasks_in, seed_in, form_in, given, check_in, exercise_in, seeded_in, two_words, three_words, four_words, IsAsked, IsCommand, IsInRange};
+ghost use Rattle.poet_cli.specs.Words.{AnalyseOf, SimulateOf, ReportOf, AssignOf, InferOf, horizon_in, ticks_in, tasks_in, seed_in, form_in, given, check_in, exercise_in, seeded_in, one_word, two_words, three_words, four_words, IsAsked, IsCommand, IsInRange};
 
 use lists::limits::{GREATEST_NUMBER, MOST_TICKS};
 use poet_io::read_number_in;
@@ -48,6 +48,20 @@ pub enum Command<'a> {
     Exercise {
         seed: u64,
         tasks: u32,
+    },
+    /// `upgrade SHEET CERT`.
+    Upgrade {
+        sheet: &'a str,
+        certificate: &'a str,
+    },
+    /// `assign SHEET HORIZON`, with the horizon in ticks, in 1..10^9.
+    Assign {
+        sheet: &'a str,
+        horizon: u64,
+    },
+    /// `promise SHEET`.
+    Promise {
+        sheet: &'a str,
     },
     /// `infer FILE HORIZON`, with the horizon in ticks, in 1..10^9.
     Infer {
@@ -102,6 +116,14 @@ fn exercise_of<'a>(seed: &str, tasks: &str) -> Option<Command<'a>>
     Some(Command::Exercise { seed, tasks })
 }
 
+fn assign_of<'a>(sheet: &'a str, horizon: &str) -> Option<Command<'a>>
+    ensures defined { IsAsked (given (horizon_in horizon.now) (AssignOf sheet.now)) result }
+    ensures in_range { IfSome result IsInRange }
+{
+    let horizon = read_number_in(horizon.as_bytes(), 1, GREATEST_NUMBER)?;
+    Some(Command::Assign { sheet, horizon })
+}
+
 fn infer_of<'a>(trace: &'a str, horizon: &str) -> Option<Command<'a>>
     ensures defined { IsAsked (given (horizon_in horizon.now) (InferOf trace.now)) result }
     ensures in_range { IfSome result IsInRange }
@@ -144,7 +166,21 @@ fn report_of<'a>(sheet: &'a str, certificate: &'a str, form: &str) -> Option<Com
     })
 }
 
-/// The commands of two words: `check`, `analyse`, `audit`, `exercise` and `infer`.
+/// The command of one word: `promise`.
+#[tactic(auto, unfolding(crate::specs::Words::one_word))]
+fn command_of_one<'a>(command: &str, first: &'a str) -> Option<Command<'a>>
+    ensures defined { IsAsked (one_word command.now first.now) result }
+    ensures in_range { IfSome result IsInRange }
+{
+    if command == "promise" {
+        Some(Command::Promise { sheet: first })
+    } else {
+        None
+    }
+}
+
+/// The commands of two words: `check`, `analyse`, `audit`, `exercise`, `upgrade`, `assign` and
+/// `infer`.
 #[tactic(auto, unfolding(crate::specs::Words::two_words))]
 fn command_of_two<'a>(command: &str, first: &'a str, second: &'a str) -> Option<Command<'a>>
     ensures defined { IsAsked (two_words command.now first.now second.now) result }
@@ -168,6 +204,15 @@ fn command_of_two<'a>(command: &str, first: &'a str, second: &'a str) -> Option<
     }
     if command == "exercise" {
         return exercise_of(first, second);
+    }
+    if command == "upgrade" {
+        return Some(Command::Upgrade {
+            sheet: first,
+            certificate: second,
+        });
+    }
+    if command == "assign" {
+        return assign_of(first, second);
     }
     if command == "infer" {
         return infer_of(first, second);
@@ -228,6 +273,7 @@ pub fn command_of(words: &[String]) -> Option<Command<'_>>
     ensures in_range { IfSome result IsInRange }
 {
     match words {
+        [command, first] => command_of_one(command.as_str(), first.as_str()),
         [command, first, second] => command_of_two(
             command.as_str(),
             first.as_str(),

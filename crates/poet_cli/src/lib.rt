@@ -3,20 +3,25 @@
 #![tactic(auto)]
 
 mod analysing;
+mod assigning;
 mod auditing;
+mod checking;
 mod exercising;
 mod grammar;
 mod inferring;
-mod judging;
 mod on_sheet;
 mod printed;
 mod printing;
+mod promising;
 mod reading;
 mod refusal;
+mod reporting;
 mod run_printing;
 mod simulating;
 mod telling;
 mod top;
-mod viewing;
+mod upgrading;
+mod verdict_telling;
 
+pub use checking::judge;
 pub use top::poet_run;

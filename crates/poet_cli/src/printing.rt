@@ -1,14 +1,14 @@
 //! The texts of a judgement, and what other texts share with them.
-ghost use Rattle.std.specs.Prelude.{◌≡◌, ◌++◌, length, OnOk, IfOk};
+ghost use Rattle.std.specs.Prelude.{◌≡◌, ◌++◌, OnOk, IfOk};
 ghost use Rattle.task_sheet.specs.Sheets.{task_at};
-ghost use Rattle.poet_cli.specs.Printing.{counted, named, bound_line, bounds_text, accepted_text, cond_text as cond_text_of, task_text, refused_text, part_text as part_text_of, no_bound_text};
+ghost use Rattle.poet_cli.specs.Printing.{counted, named, cond_text as cond_text_of, task_text, refused_text, part_text as part_text_of, no_bound_text};
 
 use conditions::{Cond, Failed};
 use lists::Items;
 use poet_io::push_number;
 use solver::Part;
 use std::alloc::{AllocError, Global};
-use task_sheet::{Sheet, Task};
+use task_sheet::Sheet;
 
 /// Appends a word and a number.
 pub fn push_counted(out: &mut Vec<u8>, word: &str, n: u64) -> Result<(), AllocError>
@@ -28,47 +28,8 @@ pub fn push_named(out: &mut Vec<u8>, word: &str, n: Option<u64>) -> Result<(), A
     }
 }
 
-/// Appends the line of a task and its bound.
-#[tactic(auto, unfolding(crate::specs::Printing::bound_line))]
-fn push_bound(out: &mut Vec<u8>, task: &Task, bound: u64) -> Result<(), AllocError>
-    ensures { OnOk result (out.new.items ≡ out.old.items ++ bound_line task.now bound) }
-{
-    out.extend_from_slice("task ".as_bytes())?;
-    out.extend_from_slice(task.name.as_str().as_bytes())?;
-    push_counted(out, " bound ", bound)?;
-    push_counted(out, " deadline ", task.deadline)?;
-    let met = if bound <= task.deadline {
-        " met\n"
-    } else {
-        " missed\n"
-    };
-    out.extend_from_slice(met.as_bytes())
-}
-
-/// Appends a line for each task.
-fn push_bounds(out: &mut Vec<u8>, sheet: &Sheet, bounds: &[u64]) -> Result<(), AllocError>
-    requires { length bounds.now ≡ length sheet.now.tasks }
-    ensures { OnOk result
-        (out.new.items ≡ out.old.items ++ bounds_text sheet.now.tasks bounds.now) }
-{
-    for i in 0..sheet.len() {
-        push_bound(out, sheet.task(i), bounds[i as usize])?;
-    }
-    Ok(())
-}
-
-/// That a certificate is accepted, and its bounds.
-#[tactic(auto, unfolding(crate::specs::Printing::accepted_text))]
-pub fn accepted(alloc: Global, sheet: &Sheet, bounds: &[u64]) -> Result<Items<u8>, AllocError>
-    requires { length bounds.now ≡ length sheet.now.tasks }
-    ensures { IfOk result (λ text. text ≡ accepted_text sheet.now bounds.now) }
-{
-    let mut text = Vec::from_slice(alloc, "accepted\n".as_bytes())?;
-    push_bounds(&mut text, sheet, bounds)?;
-    Ok(Items::new(text))
-}
-
-fn cond_text(cond: Cond) -> &'static str
+/// The words of a refused condition.
+pub fn cond_text(cond: Cond) -> &'static str
     ensures { result.now ≡ cond_text_of cond }
 {
     match cond {
@@ -81,6 +42,7 @@ fn cond_text(cond: Cond) -> &'static str
         Cond::K7 => "refused K7",
         Cond::K8 => "refused K8",
         Cond::K9 => "refused K9",
+        Cond::K10 => "refused K10",
     }
 }
 

@@ -56,6 +56,8 @@ pub enum Refusal {
     Jobs,
     /// The jobs of the run would have more than 1,000,000 segments.
     Segments,
+    /// The text of a certificate with its terms would be longer than its file may be.
+    LongUpgrade,
     Memory,
 }
 
@@ -68,7 +70,11 @@ impl Refusal {
             Refusal::Read(_) => 3,
             Refusal::Sheet(_) => 5,
             Refusal::Text { .. } => 6,
-            Refusal::Limit(_) | Refusal::Points(_) | Refusal::Jobs | Refusal::Segments => 7,
+            Refusal::Limit(_)
+            | Refusal::Points(_)
+            | Refusal::Jobs
+            | Refusal::Segments
+            | Refusal::LongUpgrade => 7,
             Refusal::Memory => 8,
         }
     }

@@ -15,6 +15,9 @@ const USAGE: &str = "usage: poet check SHEET CERT [deadlines] \
     | audit SHEET RUN \
     | report SHEET CERT text|json \
     | exercise S N \
+    | upgrade SHEET CERT \
+    | assign SHEET HORIZON \
+    | promise SHEET \
     | infer FILE HORIZON\n";
 
 #[tactic(auto, unfolding(crate::specs::Refusals::field_word))]
@@ -27,6 +30,8 @@ fn field_word(field: Field) -> &'static str
         Field::Task => "task",
         Field::Horizon => "horizon",
         Field::Times => "times",
+        Field::Cycle => "cycle",
+        Field::Slots => "slots",
         Field::Name => "name",
         Field::Cost => "cost",
         Field::Deadline => "deadline",
@@ -127,6 +132,13 @@ fn write_sheet_refusal<E: Sink>(refusal: SheetRefusal, err: &mut E) -> Result<()
         SheetRefusal::Order { place, field } => {
             write_field(err, "sheet: ", field, " out of order in ", place)
         }
+        SheetRefusal::Mixed => write_at(
+            err,
+            "sheet: both promise and table in ",
+            "",
+            "",
+            Place::Supply,
+        ),
         SheetRefusal::Both { task } => { write_task(err, "sheet: both period and curve in ", task) }
         SheetRefusal::Twice { task } => write_task(err, "sheet: name repeated in ", task),
         SheetRefusal::Sum { task } => {
@@ -247,6 +259,10 @@ fn write_refusal<E: Sink>(refusal: &Refusal, err: &mut E) -> Result<(), SinkFaul
         Refusal::Points(name) => write_points(name.as_str(), err),
         Refusal::Jobs => write_all(err, "limit: jobs exceed 20000\n".as_bytes()),
         Refusal::Segments => write_all(err, "limit: segments exceed 1000000\n".as_bytes()),
+        Refusal::LongUpgrade => write_all(
+            err,
+            "limit: upgraded certificate is longer than 67108864 bytes\n".as_bytes(),
+        ),
         Refusal::Memory => write_all(err, "memory\n".as_bytes()),
     }
 }
@@ -264,7 +280,7 @@ fn tell_refusal<E: Sink>(refusal: &Refusal, err: &mut E) -> u8
 
 /// The status of a text that was written, or else 4 and its line.
 #[tactic(auto, using(poet_io::proofs::Telling::wrote_line, poet_io::proofs::Writing::stayed_same), unfolding(crate::specs::Refusals::write_failed))]
-fn finish<E: Sink>(written: Result<(), SinkFault>, status: u8, err: &mut E) -> u8
+pub fn finish<E: Sink>(written: Result<(), SinkFault>, status: u8, err: &mut E) -> u8
     ensures { Finished written status (E.written err.old) (E.written err.new) (E.faults err.old)
         (E.faults err.new) result }
 {

@@ -60,7 +60,7 @@ module _ (p q : PolicyMeaning) (m : CutMeaning) (s : SheetParts) (k : PolicyKind
   blocking_same a = max_same (block_of p m s i a) (block_of q m (twin s k) i a) (length s.tasks)
       (λ o b. ap (λ (w : Bool). cond w (m.longest (task_at s o) - 1) 0) (others_only o i _ _ (λ ne. same.may_block i o a here b ne)))
 
-  own_same : (a : ℕ) → own_of m s i a ≡ own_of m (twin s k) i a
+  pub own_same : (a : ℕ) → own_of m s i a ≡ own_of m (twin s k) i a
   unfolding own_of
   own_same a = refl
 

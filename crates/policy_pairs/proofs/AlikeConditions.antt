@@ -7,11 +7,13 @@ use Rattle.policy.specs.PolicyMeaning.{PolicyMeaning}
 use Rattle.preemption.specs.CutMeaning.{CutMeaning}
 use Rattle.certificate.specs.declared.cert.Entry.{Entry}
 use Rattle.certificate.specs.declared.cert.Cert.{Cert}
-use Rattle.certificate.specs.declared.cert.Point.{Point}
+use Rattle.certificate.specs.declared.cert.Terms.{Terms}
+use Rattle.certificate.specs.Text.{PointLine, lines_of}
+use Rattle.conditions.specs.PointTerms.{tells_terms}
 use Rattle.demand.specs.Demand.{need_of, rest_of, window_need_of}
 use Rattle.conditions.specs.Conditions.{entry_at, is_window, meets_end, rest_within, entry_failed_of, gap_failed_of, point_failed_of}
 use Rattle.conditions.specs.Conditions.{points_failed_of, task_failed_of, tasks_failed_of, failed_of}
-use Rattle.policy_pairs.proofs.Alike.{twin, IsAlike, need_same, window_need_same, at_same}
+use Rattle.policy_pairs.proofs.Alike.{twin, IsAlike, others_same, blocking_same, own_same, need_same, window_need_same, at_same}
 
 first_same : {F : Type 0} (f g : ℕ → Option F) (n : ℕ) → ((k : ℕ) → k < n → f k ≡ g k) → first_below f n ≡ first_below g n
 first_same f g zero same = refl
@@ -36,19 +38,31 @@ module _ (p q : PolicyMeaning) (m : CutMeaning) (sbf : ℕ → ℕ) (s : SheetPa
     gap_same None a = refl
     gap_same (Some before) a = rw (at_same p q m s k same i here before (a - 1)) refl
 
-    point_same : (window bound : ℕ) (before : Option ℕ) (a x : ℕ) →
-        point_failed_of p m sbf s i window bound before a x ≡ point_failed_of q m sbf (twin s k) i window bound before a x
-    point_same window bound before a x = rw (gap_same before a, meets_end_same a x, rest_within_same a x bound) refl
+    told_same : (a x : ℕ) (told : Option Terms) → tells_terms p m s i a x told ≡ tells_terms q m (twin s k) i a x told
+    told_same a x None = refl
+    told_same a x (Some told) =
+        rw (
+          blocking_same p q m s k same i here a,
+          own_same p q m s k same i here a,
+          others_same p q m s k same i here a x,
+          need_same p q m s k same i here a x,
+        ) refl
 
-    points_failed_same : (window bound : ℕ) (before : Option ℕ) (points : List Point) →
-        points_failed_of p m sbf s i window bound before points ≡ points_failed_of q m sbf (twin s k) i window bound before points
+    point_same : (window bound : ℕ) (before : Option ℕ) (a x : ℕ) (told : Option Terms) →
+        point_failed_of p m sbf s i window bound before a x told ≡ point_failed_of q m sbf (twin s k) i window bound before a x told
+    point_same window bound before a x told =
+        rw (gap_same before a, meets_end_same a x, rest_within_same a x bound, told_same a x told) refl
+
+    points_failed_same : (window bound : ℕ) (before : Option ℕ) (lines : List PointLine) →
+        points_failed_of p m sbf s i window bound before lines ≡ points_failed_of q m sbf (twin s k) i window bound before lines
     points_failed_same window bound before [] = gap_same before window
-    points_failed_same window bound before (x ∷ xs) =
-        rw (point_same window bound before x.offset x.end, points_failed_same window bound (Some x.offset) xs) refl
+    points_failed_same window bound before (l ∷ ls) =
+        rw (point_same window bound before l.point.offset l.point.end l.terms, points_failed_same window bound (Some l.point.offset) ls) refl
 
     task_same : (deadlines : Bool) (e : Entry) → task_failed_of p m sbf s deadlines i e ≡ task_failed_of q m sbf (twin s k) deadlines i e
     unfolding task_failed_of
-    task_same deadlines e = rw (entry_same deadlines e.window e.bound, points_failed_same e.window e.bound None e.points) refl
+    task_same deadlines e =
+        rw (entry_same deadlines e.window e.bound, points_failed_same e.window e.bound None (lines_of e.points e.terms)) refl
 
   pub failed_same : (deadlines : Bool) (cert : Cert) → failed_of p m sbf s deadlines cert ≡ failed_of q m sbf (twin s k) deadlines cert
   unfolding failed_of

@@ -104,18 +104,21 @@ impl Draft {
         true
     }
 
-    fn take_counts(&mut self, line: &[u8], version: Version) -> bool
-        ensures next { let stage = stage.Counts version in
+    /// Takes the numbers of jobs and ticks, and makes room for them.
+    fn take_counts(&mut self, line: &[u8], version: Version) -> Result<bool, AllocError>
+        ensures next { let stage = stage.Counts version in IfOk result (λ fits.
             after_at stage self.old.jobs.items self.old.ticks.items line.now ≡
-            part_if result self.new }
-        ensures small { OnTrue result (length self.old.jobs.items ≡ 0 →
-            IsSmall (part_of self.new)) }
+            part_if fits self.new) }
+        ensures small { IfOk result (λ fits. OnTrue fits (length self.old.jobs.items ≡ 0 →
+            IsSmall (part_of self.new))) }
     {
         let Some((jobs, ticks)) = read_counts(line) else {
-            return false;
+            return Ok(false);
         };
+        self.jobs.reserve_exact(jobs as usize)?;
+        self.ticks.reserve_exact(ticks as usize)?;
         self.stage = before_jobs(version, jobs, MOST_SEGMENTS as u64, ticks);
-        true
+        Ok(true)
     }
 
     fn take_job(
@@ -173,7 +176,7 @@ impl Draft {
     {
         match self.stage {
             Stage::Head => Ok(self.take_version(line)),
-            Stage::Counts { version } => Ok(self.take_counts(line, version)),
+            Stage::Counts { version } => self.take_counts(line, version),
             Stage::Jobs {
                 version,
                 after,

@@ -5,3 +5,4 @@ pub mod Loop
 pub mod WorkedRows
 pub mod PrintedFacts
 pub mod ReadsBack
+pub mod TableFacts

@@ -26,7 +26,7 @@ use Rattle.task_sheet.specs.Sheets.{parts_of, no_task, IsValidSheet}
 use Rattle.task_sheet.specs.Words.{policy_word}
 use Rattle.task_sheet.proofs.RuleFacts.{both_hold, holds_means, positive_from, positive_high, cut_passes, promise_passes, task_means, tasks_from_valid}
 use Rattle.sheet_text.specs.Documents.{knows_only, number_of, all_of, items_count}
-use Rattle.sheet_text.specs.SupplyRows.{promised_rule}
+use Rattle.sheet_text.specs.SupplyRows.{promised_rule, given_rule}
 use Rattle.sheet_text.specs.CurveRows.{step_of, curve_rule}
 use Rattle.sheet_text.specs.CutRows.{segmented_rule, preemption_rule}
 use Rattle.sheet_text.specs.TaskRows.{task_keys, name_rule, jitter_rule, point_rule, numbers_rule, names_of, task_of, tasks_after}
@@ -139,8 +139,8 @@ policy_again Gel = refl
 policy_again Elf = refl
 
 promise_again : (horizon : ℕ) (times : List ℕ) → supply_rule (Promised horizon times) ≡ Ok tt →
-    promised_rule (promise_data horizon times) ≡ Ok (Promised horizon times)
-unfolding promised_rule
+    given_rule (promise_data horizon times) ≡ Ok (Promised horizon times)
+unfolding given_rule promised_rule
 promise_again horizon times h =
     let first = both_hold _ _ _ (both_hold _ _ _ h).0 in
     let positive : is_in_range horizon ≡ true = holds_means _ _ first.0 in

@@ -4,13 +4,15 @@ use lib.Utf8.{encode}
 use Rattle.std.specs.Str.{is_utf8, chars}
 use Rattle.toml.proofs.OnLiterals.{toml_on_literals}
 use Rattle.task_sheet.specs.declared.tasks.PolicyKind.TheVariants.{Fp, Edf, Gel}
-use Rattle.task_sheet.specs.declared.tasks.SupplySpec.TheVariants.{Unit as Whole}
+use Rattle.task_sheet.specs.declared.tasks.SupplySpec.TheVariants.{Unit as Whole, Promised}
 use Rattle.task_sheet.specs.declared.tasks.Cut.TheVariants.{Full, Floating}
 use Rattle.task_sheet.specs.declared.refusal.Place.TheVariants as places
 use Rattle.task_sheet.specs.declared.refusal.Field.TheVariants as fields
-use Rattle.task_sheet.specs.declared.refusal.SheetRefusal.TheVariants.{Text, Missing, Kind, Range, Order, Both, Twice, Sum}
+use Rattle.task_sheet.specs.declared.refusal.SheetRefusal.TheVariants.{Text, Missing, Kind, Range, Order, Mixed, Both, Twice, Sum}
 use Rattle.task_sheet.specs.Rules.{most_jitter, most_point}
-use Rattle.sheet_text.specs.SupplyRows.{promised_rule}
+use Rattle.supply_table.specs.Floors.{is_supplied, count_in, floor_of}
+use Rattle.sheet_text.specs.TableRows.{cyclic_rule}
+use Rattle.sheet_text.specs.SupplyRows.{promised_rule, given_rule}
 use Rattle.curve.specs.Curves.{periodic}
 use Rattle.sheet_text.specs.CurveRows.{curve_rule}
 use Rattle.sheet_text.specs.CutRows.{segmented_rule}
@@ -30,8 +32,47 @@ unfolding sheet_of_text is_utf8 chars sheet_of toml_on_literals
 empty_file = refl
 
 pub supply_first : sheet_of_text (codes "policy = \"fp\"\nsupply = { horizon = 4, times = [3, 5] }\ntask = 1\n") ≡ Err (Order places.Supply fields.Times)
-unfolding sheet_of_text is_utf8 chars sheet_of promised_rule toml_on_literals
+unfolding sheet_of_text is_utf8 chars sheet_of given_rule promised_rule toml_on_literals
 supply_first = refl
+
+-- a sheet with these lines in its supply, and with no task
+abbrev supply_text : List ℕ → List ℕ
+supply_text lines = codes "policy = \"edf\"\n[supply]\n" ++ lines
+
+pub slots_fall : sheet_of_text (supply_text (codes "cycle = 6\nslots = [[3, 2], [0, 1]]\n")) ≡ Err (Order places.Supply fields.Slots)
+unfolding sheet_of_text is_utf8 chars sheet_of given_rule cyclic_rule toml_on_literals
+slots_fall = refl
+
+pub table_and_horizon : sheet_of_text (supply_text (codes "cycle = 6\nslots = [[0, 1], [3, 2]]\nhorizon = 6\n")) ≡ Err Mixed
+unfolding sheet_of_text is_utf8 chars sheet_of given_rule cyclic_rule toml_on_literals
+table_and_horizon = refl
+
+pub slots_and_times : sheet_of_text (supply_text (codes "slots = 1\ntimes = 1\n")) ≡ Err Mixed
+unfolding sheet_of_text is_utf8 chars sheet_of given_rule cyclic_rule toml_on_literals
+slots_and_times = refl
+
+pub slots_alone : sheet_of_text (supply_text (codes "slots = 1\n")) ≡ Err (Missing places.Supply fields.Cycle)
+unfolding sheet_of_text is_utf8 chars sheet_of given_rule cyclic_rule toml_on_literals
+slots_alone = refl
+
+pub start_below_zero : sheet_of_text (supply_text (codes "cycle = 6\nslots = [[-1, 2]]\n")) ≡ Err (Range places.Supply fields.Slots)
+unfolding sheet_of_text is_utf8 chars sheet_of given_rule cyclic_rule toml_on_literals
+start_below_zero = refl
+
+pub slot_of_three : sheet_of_text (supply_text (codes "cycle = 6\nslots = [[0, 1, 2]]\n")) ≡ Err (Kind places.Supply fields.Slots)
+unfolding sheet_of_text is_utf8 chars sheet_of given_rule cyclic_rule toml_on_literals
+slot_of_three = refl
+
+pub table_of_two_slots : sheet_of_text
+    (supply_text (codes "cycle = 6\nslots = [[0, 1], [3, 2]]\n") ++ task_text (codes "cost = 1\ndeadline = 9\nperiod = 8\n"))
+    ≡ Ok (record {
+      policy = Edf;
+      supply = Promised 6 (3 ∷ 5 ∷ 6 ∷ []);
+      tasks =
+          record { name = codes "a"; cost = 1; deadline = 9; priority = 0; jitter = 0; point = pos 0; curve = periodic 8; cut = Full } ∷ [];
+    })
+unfolding sheet_of_text is_utf8 chars sheet_of given_rule cyclic_rule floor_of is_supplied count_in tasks_after task_of name_rule numbers_rule toml_on_literals
+table_of_two_slots = refl
 
 pub no_task_listed : sheet_of_text (codes "policy = \"fp\"\ntask = []") ≡ Err (Range places.Top fields.Task)
 unfolding sheet_of_text is_utf8 chars sheet_of toml_on_literals

@@ -1,5 +1,6 @@
 pub mod Readings
 pub mod Documents
+pub mod TableRows
 pub mod SupplyRows
 pub mod CurveRows
 pub mod CutRows

@@ -9,6 +9,7 @@ mod printing;
 mod promises;
 mod reading;
 mod tasks;
+mod time_tables;
 
 pub use printing::print_sheet;
 pub use reading::read_sheet;

@@ -1,25 +1,26 @@
 -- The gaps of a curve: how they grow, and that they imply what the curve says.
-use Rattle.std.proofs.Common.{◌≡◌, ℕ, zero, suc, ◌+◌, ◌-◌, ◌<◌, ◌≤◌, ◌⊎◌, Bool, true, false, cond, List, [], ◌∷◌, ◌++◌, length, get_or, max, Option}
-use Rattle.std.proofs.Common.{Some, None, refl, sym, ◌∙◌, ap, subst, inl, inr, arith, leb, ltb}
+use Rattle.std.proofs.Common.{◌≡◌, ℕ, zero, suc, ◌+◌, ◌-◌, ◌<◌, ◌≤◌, ◌⊎◌, Bool, true, false, cond, List, [], ◌∷◌, ◌++◌, length, get_or, max}
+use Rattle.std.proofs.Common.{Some, refl, sym, ◌∙◌, ap, subst, inl, inr, arith, leb, ltb}
 use Rattle.std.specs.List.Sorted.{IsNonDecreasing}
 use Rattle.std.proofs.lemmas.Bool.{cases_lt, le-leb, lt-leb, ltb-true, ltb-false}
-use Rattle.std.proofs.lemmas.List.{get_or_append_left, get_or_at}
+use Rattle.std.proofs.lemmas.List.{get_or_append_left, get_or_at, get_or_default}
+use Rattle.std.proofs.lemmas.List.Sorted.{IsNonDecreasingBy-push, IsNonDecreasingBy-short}
 use Rattle.lists.specs.Limits.{greatest_length}
 use Rattle.lists.specs.Searches.{IsLeastTo}
 use Rattle.lists.specs.Sums.{max_below}
 use Rattle.lists.proofs.SumFacts.{max_at_least}
-use Rattle.lists.proofs.FirstFacts.{all_from, all_broken}
-use Rattle.lists.proofs.SearchFacts.{greatest_is, first_cases}
+use Rattle.lists.proofs.FirstFacts.{all_broken}
+use Rattle.lists.proofs.SearchFacts.{greatest_is}
 use Rattle.curve.specs.CurveValue.{Curve}
 use Rattle.curve.specs.Curves.{alpha_of, IsRise}
 use Rattle.curve.specs.Validity.{IsCurve}
 use Rattle.curve.proofs.CurveFacts.{alpha_mono, alpha_zero, alpha_one}
 use Rattle.simulated_run.proofs.GrowthFacts.{length_more}
-use Rattle.windows.specs.Arrivals.{arrived_in, admits_in, allowance_in, IsPast}
-use Rattle.windows.proofs.ArrivalFacts.{arrived_least, arrived_most, arrived_range}
+use Rattle.windows.specs.Arrivals.{arrived_in, admits_in, allowance_in}
+use Rattle.windows.proofs.ArrivalFacts.{arrived_least}
 use Rattle.simulator.specs.declared.gaps.Gap.{Gap}
 use Rattle.simulator.specs.Openings.{IsFullBelow, IsShutFor}
-use Rattle.simulator.specs.Gaps.{gap_at, no_gap, opened_by, earliest_by, IsWindow, IsLow, AreLow, AreNear, IsImplied, AreGaps}
+use Rattle.simulator.specs.Gaps.{gap_at, no_gap, opened_by, earliest_by, IsWindow, IsLow, AreLow, AreRising, IsImplied, AreGaps}
 
 -- the next window
 
@@ -51,13 +52,13 @@ window_first c ok = record {
 
 -- the next job
 
-opened_at : (xs : List ℕ) (g : Gap) → g.count ≤ length xs → opened_by xs g ≡ get_or xs (length xs - g.count) 0 + g.distance
+pub opened_at : (xs : List ℕ) (g : Gap) → g.count ≤ length xs → opened_by xs g ≡ get_or xs (length xs - g.count) 0 + g.distance
 opened_at xs g h = ap (λ (b : Bool). cond {A = ℕ} b (get_or xs (length xs - g.count) 0 + g.distance) 0) (le-leb g.count (length xs) h)
 
-opened_not : (xs : List ℕ) (g : Gap) → length xs < g.count → opened_by xs g ≡ 0
+pub opened_not : (xs : List ℕ) (g : Gap) → length xs < g.count → opened_by xs g ≡ 0
 opened_not xs g h = ap (λ (b : Bool). cond {A = ℕ} b (get_or xs (length xs - g.count) 0 + g.distance) 0) (lt-leb g.count (length xs) h)
 
-max_stands : (f : ℕ → ℕ) (n : ℕ) → (max_below f n ≡ 0) ⊎ ((o : ℕ) × (o < n) × (max_below f n ≡ f o))
+pub max_stands : (f : ℕ → ℕ) (n : ℕ) → (max_below f n ≡ 0) ⊎ ((o : ℕ) × (o < n) × (max_below f n ≡ f o))
 max_stands f zero = inl refl
 max_stands f (suc n) = elim (cases_lt (max_below f n) (f n)) [
   | inl c ↦ inr (n, omega arith, omega arith)
@@ -92,17 +93,46 @@ module _ (c : Curve) (ok : IsCurve c) (gaps : List Gap) (list : List ℕ) (windo
         subst (λ (g : Gap). y ≡ get_or (list ++ x ∷ []) (k - g.count) 0 + g.distance) (sym (same p.0 p.1)) (omega (arith, p.3, kept)),
       )
 
+  -- the next job comes no earlier than the last
+  rises : get_or list (length list - 1) 0 ≤ earliest_by gaps list
+  rises =
+      let some = are.some in
+      elim (are.implied (length list - 1) (omega arith)) [
+        | inl e ↦ omega (arith, e)
+        | inr p ↦
+            let low = (are.low p.0 p.1).low in
+            let n : ℕ = (gap_at gaps p.0).count in
+            let near : n ≤ length list - 1 = p.2 in
+            omega (
+              arith,
+              p.3,
+              are.ascending (length list - 1 - n) (length list - n) 0 (omega arith) (omega (arith, low)),
+              opened_at list (gap_at gaps p.0) (omega arith),
+              max_at_least (λ i. opened_by list (gap_at gaps i)) (length gaps) p.0 p.1,
+            )
+      ]
+
   grown : (more : List Gap) (x w : ℕ) → ((i : ℕ) → i < length gaps → gap_at more i ≡ gap_at gaps i) → length gaps ≤ length more →
       AreLow more → ((i : ℕ) → i < length more → IsFullBelow c (gap_at more i).count ((gap_at more i).distance + 1)) →
+      AreRising more → ((i : ℕ) → i < length more → ((gap_at more i).count ≤ length list) × ((gap_at more i).distance ≤ x)) → earliest_by gaps list ≤ x →
       IsWindow c (length list) w → w ≤ x + 1 → x ≤ 4000000000 → (x ≡ 0) ⊎ IsImplied more (list ++ x ∷ []) (length list) x →
       AreGaps c more (list ++ x ∷ []) w
-  grown more x w same longer low full next far high new =
+  grown more x w same longer low full rising within later next far high new =
       let some = are.some in
       let len : length (list ++ x ∷ []) ≡ suc (length list) = length_more list x in
       let here : get_or (list ++ x ∷ []) (length list) 0 ≡ x = get_or_at list x [] 0 (length list) refl in
       let kept : (k : ℕ) → k < length list → get_or (list ++ x ∷ []) k 0 ≡ get_or list k 0 = λ k b. get_or_append_left list (x ∷ []) 0 k b in
+      let last : length (list ++ x ∷ []) - 1 ≡ length list = omega (arith, len) in
       record {
         low = low;
+        rising = rising;
+        listed = λ i b. record {
+          count = omega (arith, (within i b).0, len);
+          distance = omega (arith, (within i b).1, here, ap (λ v. get_or (list ++ x ∷ []) v 0) last);
+        };
+        ascending =
+            IsNonDecreasingBy-push (λ v. v) list x are.ascending
+            (λ d b. omega (arith, get_or_default list (length list - 1) d 0 (omega arith), rises, later));
         full = full;
         some = omega (arith, len);
         begins = omega (arith, kept 0 some, are.begins);
@@ -134,15 +164,17 @@ module _ (c : Curve) (ok : IsCurve c) (gaps : List Gap) (list : List ℕ) (windo
   grown_alone : (x w : ℕ) → IsWindow c (length list) w → w ≤ x + 1 → x ≤ 4000000000 → x ≡ earliest_by gaps list → AreGaps c gaps (list ++ x ∷ []) w
   grown_alone x w next far high e =
       let new : (x ≡ 0) ⊎ IsImplied gaps list (length list) x = subst (λ v. (v ≡ 0) ⊎ IsImplied gaps list (length list) v) (sym e) (earliest_cases gaps list) in
-      grown gaps x w (λ i b. refl) (omega arith) are.low are.full next far high (elim new [
+      grown gaps x w (λ i b. refl) (omega arith) are.low are.full are.rising
+      (λ i b. (omega (arith, (are.listed i b).count), omega (arith, (are.listed i b).distance, rises, e)))
+      (omega (arith, e)) next far high (elim new [
         | inl z ↦ inl z
         | inr p ↦ inr (implied_kept gaps x (length list) x (λ i b. refl) (omega arith) (omega arith) p)
       ])
 
   -- or a new one
-  grown_gap : (x w : ℕ) → IsWindow c (length list) w → w ≡ x + 1 → x ≤ 4000000000 →
+  grown_gap : (x w : ℕ) → IsWindow c (length list) w → w ≡ x + 1 → x ≤ 4000000000 → earliest_by gaps list ≤ x →
       AreGaps c (gaps ++ (let g : Gap = record { count = length list; distance = x } in g) ∷ []) (list ++ x ∷ []) w
-  grown_gap x w next far high =
+  grown_gap x w next far high later =
       let some = are.some in
       let g : Gap = record { count = length list; distance = x } in
       let more : List Gap = gaps ++ g ∷ [] in
@@ -172,7 +204,35 @@ module _ (c : Curve) (ok : IsCurve c) (gaps : List Gap) (list : List ℕ) (windo
             subst (λ k. IsFullBelow c (gap_at more k).count ((gap_at more k).distance + 1)) (sym e)
             (subst (λ (v : Gap). IsFullBelow c v.count (v.distance + 1)) (sym here) full)
       ])
-      next (omega (arith, far)) high (inr new)
+      (record {
+        counts =
+            IsNonDecreasingBy-push (λ (v : Gap). v.count) gaps g are.rising.counts
+            (λ d b. omega (
+              arith,
+              (are.listed (length gaps - 1) (omega arith)).count,
+              ap (λ (v : Gap). v.count) (get_or_default gaps (length gaps - 1) d no_gap (omega arith)),
+            ));
+        distances =
+            IsNonDecreasingBy-push (λ (v : Gap). v.distance) gaps g are.rising.distances
+            (λ d b. omega (
+              arith,
+              (are.listed (length gaps - 1) (omega arith)).distance,
+              rises,
+              later,
+              ap (λ (v : Gap). v.distance) (get_or_default gaps (length gaps - 1) d no_gap (omega arith)),
+            ));
+      })
+      (λ i b. elim (cases_lt i (length gaps)) [
+        | inl l ↦ (
+          omega (arith, (are.listed i l).count, ap (λ (v : Gap). v.count) (kept i l)),
+          omega (arith, (are.listed i l).distance, rises, later, ap (λ (v : Gap). v.distance) (kept i l)),
+        )
+        | inr l ↦
+            let e : i ≡ length gaps = omega (arith, len) in
+            let at : gap_at more i ≡ g = ap (gap_at more) e ∙ here in
+            (omega (arith, ap (λ (v : Gap). v.count) at), omega (arith, ap (λ (v : Gap). v.distance) at))
+      ])
+      later next (omega (arith, far)) high (inr new)
 
   pub grown_by : (needed : Bool) (x w : ℕ) (count : ℕ) → IsWindow c (length list) w → x ≡ max (earliest_by gaps list) (w - 1) → x ≤ 4000000000 →
       needed ≡ ltb (earliest_by gaps list) x → count ≡ length list →
@@ -181,7 +241,7 @@ module _ (c : Curve) (ok : IsCurve c) (gaps : List Gap) (list : List ℕ) (windo
       let low = next.low in
       let more : earliest_by gaps list < x = ltb-true _ _ (sym test) in
       subst (λ n. AreGaps c (gaps ++ (let g : Gap = record { count = n; distance = x } in g) ∷ []) (list ++ x ∷ []) w) (sym len)
-      (grown_gap x w next (omega (arith, is)) high)
+      (grown_gap x w next (omega (arith, is)) high (omega arith))
   grown_by false x w count next is high test len =
       let low = next.low in
       let less : x ≤ earliest_by gaps list = ltb-false _ _ (sym test) in
@@ -203,6 +263,9 @@ gaps_first c ok gaps list e f =
     let at : (k : ℕ) → k < 1 → get_or one k 0 ≡ 0 = λ k b. (let z : k ≡ 0 = omega arith in ap (λ i. get_or one i 0) z) in
     let start : AreGaps c [] one 1 = record {
       low = λ i b. absurd (omega arith);
+      rising = record { counts = λ i j d h b. absurd (omega arith); distances = λ i j d h b. absurd (omega arith) };
+      listed = λ i b. absurd (omega arith);
+      ascending = IsNonDecreasingBy-short (λ v. v) one (omega arith);
       full = λ i b. absurd (omega arith);
       some = omega arith;
       begins = refl;
@@ -238,84 +301,3 @@ module _ (c : Curve) (gaps : List Gap) (list : List ℕ) (window : ℕ) (are : A
         let at = shut_from (length xs - n) n (gap_at gaps p.0).distance (omega (arith, low, p.2)) (omega (arith, p.2)) (are.full p.0 p.1) in
         subst (IsShutFor c xs t) (sym p.3) at
   ]
-
--- and from then on it may
-
-module _ (c : Curve) (ok : IsCurve c) (gaps : List Gap) (list : List ℕ) (window : ℕ) (are : AreGaps c gaps list window)
-    (xs : List ℕ) (t : ℕ) (past : IsPast c xs t) where
-  gap_apart : (i j : ℕ) → i < length gaps → (gap_at gaps i).count ≤ j → j < length xs →
-      get_or xs (j - (gap_at gaps i).count) 0 + (gap_at gaps i).distance ≤ get_or xs j 0
-  gap_apart i j b h l =
-      let n : ℕ = (gap_at gaps i).count in
-      let d : ℕ = (gap_at gaps i).distance in
-      let from : ℕ = get_or xs (j - n) 0 in
-      let to : ℕ = get_or xs j 0 in
-      elim (cases_lt to (from + d)) [
-        | inr far ↦ far
-        | inl close ↦
-            let order : from ≤ to = past.ascending (j - n) j 0 (omega arith) l in
-            let many : j + 1 - (j - n) ≤ arrived_in xs from (to + 1) =
-            arrived_range xs from (to + 1) (j - n) (j + 1) (omega (arith, l))
-            (λ k a e. past.ascending (j - n) k 0 a (omega (arith, e, l))) (λ k a e. omega (arith, past.ascending k j 0 (omega (arith, e)) l)) in
-            let within : arrived_in xs from (to + 1) ≤ alpha_of c (to + 1 - from) = past.within from (to + 1) (omega (arith, order)) in
-            let few : alpha_of c (to + 1 - from) ≤ n = are.full i b (to + 1 - from) (omega (arith, close, order)) in
-            absurd (omega (arith, many, within, few, h))
-      ]
-
-  -- arrivals are as far apart as in the densest run
-  apart : (fuel k i : ℕ) → k ≤ fuel → i + k < length xs → k < length list → get_or xs i 0 + get_or list k 0 ≤ get_or xs (i + k) 0
-  apart zero k i h b l =
-      let e : k ≡ 0 = omega arith in
-      omega (arith, are.begins, ap (λ v. get_or list v 0) e, past.ascending i (i + k) 0 (omega arith) b)
-  apart (suc fuel) k i h b l = elim (are.implied k l) [
-    | inl e ↦ omega (arith, e, past.ascending i (i + k) 0 (omega arith) b)
-    | inr p ↦
-        let low = (are.low p.0 p.1).low in
-        let n : ℕ = (gap_at gaps p.0).count in
-        let rest : get_or xs i 0 + get_or list (k - n) 0 ≤ get_or xs (i + (k - n)) 0 =
-        apart fuel (k - n) i (omega (arith, low, h)) (omega (arith, b)) (omega (arith, l)) in
-        let step = gap_apart p.0 (i + k) p.1 (omega (arith, p.2)) b in
-        let same : i + (k - n) ≡ i + k - n = omega (arith, p.2) in
-        omega (arith, rest, step, p.3, ap (λ v. get_or xs v 0) same)
-  ]
-
-  come : earliest_by gaps xs ≤ t → length xs < length list → (i : ℕ) → i < length xs → get_or xs i 0 + get_or list (length xs - i) 0 ≤ t
-  come early all i b = elim (are.implied (length xs - i) (omega arith)) [
-    | inl e ↦ omega (arith, e, past.before i b)
-    | inr p ↦
-        let low = (are.low p.0 p.1).low in
-        let n : ℕ = (gap_at gaps p.0).count in
-        let d : ℕ = (gap_at gaps p.0).distance in
-        let fits : n ≤ length xs = omega (arith, p.2) in
-        let reached : get_or xs (length xs - n) 0 + d ≤ t =
-        omega (arith, early, max_at_least (λ k. opened_by xs (gap_at gaps k)) (length gaps) p.0 p.1, opened_at xs (gap_at gaps p.0) fits) in
-        let rest : get_or xs i 0 + get_or list (length xs - i - n) 0 ≤ get_or xs (i + (length xs - i - n)) 0 =
-        apart (length xs) (length xs - i - n) i (omega arith) (omega (arith, low, b, p.2)) (omega (arith, all)) in
-        let same : i + (length xs - i - n) ≡ length xs - n = omega (arith, p.2, b) in
-        omega (arith, rest, reached, p.3, ap (λ v. get_or xs v 0) same)
-  ]
-
-  fits_one : earliest_by gaps xs ≤ t → length xs < length list → (s : ℕ) → s ≤ t → arrived_in xs s t + 1 ≤ alpha_of c (t + 1 - s)
-  fits_one early all s h = elim (first_cases (λ k. ltb (get_or xs k 0) s) (length xs)) [
-    | inl f ↦
-        let i : ℕ = f.0 in
-        let b : i < length xs = f.1.listed in
-        let at : s ≤ get_or xs i 0 = ltb-false _ _ f.1.fails in
-        let most : arrived_in xs s t ≤ length xs - i = arrived_most xs s t i (λ k a e. ltb-true _ _ (f.1.least k a)) in
-        let later : get_or xs i 0 + get_or list (length xs - i) 0 ≤ t = come early all i b in
-        let admits : length xs - i < alpha_of c (get_or list (length xs - i) 0 + 1) = are.admits (length xs - i) (omega (arith, all)) in
-        omega (arith, most, admits, alpha_mono c ok (get_or list (length xs - i) 0 + 1) (t + 1 - s) (omega (arith, later, at)))
-    | inr never ↦
-        let most : arrived_in xs s t ≤ length xs - length xs = arrived_most xs s t (length xs) (λ k a e. ltb-true _ _ (never.all k e)) in
-        omega (arith, most, alpha_one c ok (t + 1 - s) (omega (arith, h)))
-  ]
-
-  pub room_one : alpha_of c 1 ≤ 1 → earliest_by gaps xs ≤ t → length xs < length list → allowance_in c xs t ≡ 1
-  unfolding allowance_in
-  room_one one early all =
-      greatest_is (admits_in c xs t) 1 (alpha_of c 1) (alpha_one c ok 1 (omega arith))
-      (inr (all_from (λ s. leb (arrived_in xs s t + 1) (alpha_of c (t + 1 - s))) (t + 1) (λ s b. le-leb _ _ (fits_one early all s (omega (arith, b))))))
-      (λ k a h. absurd (omega (arith, one, a, h)))
-
-  pub room_none : t < earliest_by gaps xs → allowance_in c xs t ≡ 0
-  room_none late = earliest_shuts c gaps list window are xs t past.ascending past.before t (omega arith) late

@@ -7,6 +7,8 @@ pub mod CutFacts
 pub mod KeepFacts
 pub mod ArrivalFacts
 pub mod GapFacts
+pub mod MoreFacts
+pub mod RoomFacts
 pub mod ShutFacts
 pub mod TickFacts
 pub mod SimulationFacts

@@ -1,5 +1,6 @@
 -- A tick at which no job of a task may arrive stays one, whatever arrives.
-use Rattle.std.proofs.Common.{◌≡◌, ℕ, zero, suc, ◌+◌, ◌<◌, ◌≤◌, List, [], ◌∷◌, ◌++◌, length, get_or, min, replicate, refl, sym, ◌∙◌, ap, subst, inl, inr, arith}
+use Rattle.std.proofs.Common.{◌≡◌, ℕ, zero, suc, ◌+◌, ◌-◌, ◌*◌, ◌/◌, ◌<◌, ◌≤◌, List, [], ◌∷◌, ◌++◌, length, get_or, min, replicate, refl}
+use Rattle.std.proofs.Common.{sym, ◌∙◌, ap, subst, inl, inr, arith}
 use Rattle.std.proofs.Math.ListN.{set}
 use Rattle.std.proofs.lemmas.Bool.{cases_eq, cases_lt}
 use Rattle.std.proofs.lemmas.List.{get_or-set_same, get_or-set_other, get_or_append_left, get_or_at, length-set, length-replicate, get_or-replicate}
@@ -17,16 +18,16 @@ use Rattle.simulated_run.specs.declared.mode.Mode.{Mode}
 use Rattle.simulated_run.specs.declared.mode.Mode.TheVariants.{Dense, Seed}
 use Rattle.simulated_run.specs.SimulatedRun.{World, Moment, admits, allowance_of, arriving, after_arriving, room, arrive_of, arrive_below}
 use Rattle.simulated_run.proofs.AllowanceFacts.{IsTight, tight_refused, allowance_tight}
-use Rattle.simulated_run.proofs.GrowthFacts.{BeginsWith, begins_itself, arrivals_extend}
+use Rattle.simulated_run.proofs.GrowthFacts.{BeginsWith}
 use Rattle.simulated_run.proofs.RunFacts.{arrivals_front}
 use Rattle.windows.specs.Arrivals.{allowance_in}
 use Rattle.windows.specs.Crowds.{AreArrivals}
 use Rattle.windows.proofs.CrowdFacts.{arrival_job}
 use Rattle.simulator.specs.declared.openings.Openings.{Openings}
 use Rattle.simulator.specs.declared.gaps.Gaps.{Gaps}
-use Rattle.simulator.specs.Openings.{IsShutFor, IsShut, AreShut}
+use Rattle.simulator.specs.Openings.{IsShutFor, IsShut}
 use Rattle.simulator.specs.Gaps.{IsGaps}
-use Rattle.simulator.specs.AllOpenings.{HasGaps, AreOpenings}
+use Rattle.simulator.specs.AllOpenings.{HasGaps, IsInBlock, AreOpenings, AreArriving}
 use Rattle.simulator.proofs.SameAnswers.{allowance_same}
 use Rattle.simulator.proofs.ArrivalFacts.{arrived_by}
 
@@ -83,49 +84,60 @@ pub openings_on : (sheet : SheetParts) (run later : Run) (t : ℕ) (openings : O
 openings_on sheet run later t openings b are = record {
   shut = record { tasks = are.shut.tasks; each = λ o h. shut_on sheet o run later t (get_or openings.ticks.items o 0) b (are.shut.each o h) };
   gaps = are.gaps;
+  blocks = are.blocks;
   first = are.first;
 }
 
-pub openings_later : (sheet : SheetParts) (run : Run) (t : ℕ) (openings : Openings) → AreOpenings sheet run t openings → AreOpenings sheet run (suc t) openings
+pub openings_later : (sheet : SheetParts) (run : Run) (t : ℕ) (openings : Openings) → AreOpenings sheet run t openings →
+    AreOpenings sheet run (suc t) openings
 openings_later sheet run t openings are = record {
   shut = record { tasks = are.shut.tasks; each = λ o h v a b. are.shut.each o h v (omega arith) b };
   gaps = are.gaps;
+  blocks = are.blocks;
   first = are.first;
 }
 
 pub openings_start : (sheet : SheetParts) (run : Run) (t n : ℕ) (openings : Openings) → n ≡ length sheet.tasks → openings.ticks.items ≡ replicate n 0 →
-    openings.first ≡ 0 → HasGaps sheet openings.gaps.items → AreOpenings sheet run t openings
-openings_start sheet run t n openings len ticks first gaps =
+    openings.firsts.items ≡ replicate (n / 16 + 1) 0 → openings.first ≡ 0 → HasGaps sheet openings.gaps.items → AreOpenings sheet run t openings
+openings_start sheet run t n openings len ticks firsts first gaps =
     let zero_at : (o : ℕ) → o < length sheet.tasks →
     get_or openings.ticks.items o 0 ≡ 0 = λ o h. ap (λ (l : List ℕ). get_or l o 0) ticks ∙ get_or-replicate n o 0 0 (omega arith) in
+    let count : length openings.firsts.items ≡ n / 16 + 1 = ap length firsts ∙ length-replicate (n / 16 + 1) 0 in
+    let listed : length openings.ticks.items ≡ n = ap length ticks ∙ length-replicate n 0 in
     record {
-      shut = record { tasks = ap length ticks ∙ (length-replicate n 0 ∙ len); each = λ o h v a b. absurd (omega (arith, zero_at o h)) };
+      shut = record { tasks = listed ∙ len; each = λ o h v a b. absurd (omega (arith, zero_at o h)) };
       gaps = gaps;
-      first = λ o h. omega (arith, first);
+      blocks = record {
+        all = omega (arith, count, len);
+        least = λ b o i l. omega (
+          arith,
+          ap (λ (v : List ℕ). get_or v b 0) firsts,
+          get_or-replicate {A = ℕ} (n / 16 + 1) b 0 0 (omega (arith, i.from, l, listed)),
+        );
+      };
+      first = λ b h. omega (arith, first);
     }
+
+in_block : (o : ℕ) → IsInBlock (o / 16) o
+in_block o = record { from = omega arith; to = omega arith }
 
 -- before the first of them
 pub all_shut : (w : World) (t : ℕ) (m : Moment) (openings : Openings) → AreOpenings w.sheet m.run t openings → t < openings.first →
     arrive_below w t (length w.sheet.tasks) m ≡ m
-all_shut w t m openings are early = none_arrive w t (length w.sheet.tasks) m (λ o b. are.shut.each o b t (omega arith) (omega (arith, are.first o b)))
+all_shut w t m openings are early = none_arrive w t (length w.sheet.tasks) m (λ o b. (
+    let listed : o / 16 < length openings.firsts.items = omega (arith, are.blocks.all, b) in
+    are.shut.each o b t (omega arith)
+    (omega (arith, early, are.first (o / 16) listed, are.blocks.least (o / 16) o (in_block o) (omega (arith, are.shut.tasks, b))))
+    ))
 
--- at t the jobs of the first m tasks have arrived
-pub record AreArriving (sheet : SheetParts) (run : Run) (t m : ℕ) (ticks : List ℕ) (list : List Gaps) (first : ℕ) : Type 0 where
-  pub tasks : length ticks ≡ length sheet.tasks
-  pub come : (o : ℕ) → o < m → o < length sheet.tasks → IsShut sheet o run (suc t) (get_or ticks o 0)
-  pub rest : (o : ℕ) → m ≤ o → o < length sheet.tasks → IsShut sheet o run t (get_or ticks o 0)
-  pub gaps : HasGaps sheet list
-  pub least : (o : ℕ) → o < m → first ≤ get_or ticks o 0
-
-pub arriving_start : (sheet : SheetParts) (run : Run) (t first : ℕ) (openings : Openings) → AreOpenings sheet run t openings →
-    AreArriving sheet run t 0 openings.ticks.items openings.gaps.items first
-arriving_start sheet run t first openings are = record {
+pub arriving_start : (sheet : SheetParts) (run : Run) (t m : ℕ) (openings : Openings) → m ≡ 0 → AreOpenings sheet run t openings →
+    AreArriving sheet run t m openings
+arriving_start sheet run t m openings e are = record {
   tasks = are.shut.tasks;
-  come = λ o b h. absurd (omega arith);
-  rest =
-      λ o b h. are.shut.each o h;
+  come = λ o b h. absurd (omega (arith, e, b));
+  rest = λ o b h. are.shut.each o h;
   gaps = are.gaps;
-  least = λ o b. absurd (omega arith);
+  blocks = are.blocks;
 }
 
 pub gaps_pushed : (n : ℕ) (list more : List Gaps) (x : Gaps) → more ≡ list ++ x ∷ [] → length list ≡ n →
@@ -148,32 +160,114 @@ gaps_more sheet list m gaps has b are = record {
   ];
 }
 
-pub arriving_next : (sheet : SheetParts) (run later : Run) (t m first next new : ℕ) (ticks : List ℕ) (list : List Gaps) (gaps : Gaps) → m < length sheet.tasks →
-    AreArriving sheet run t m ticks list first → BeginsWith later.jobs run.jobs → IsShut sheet m later (suc t) next →
-    IsGaps (task_at sheet m).curve gaps → new ≡ min first next → AreArriving sheet later t (m + 1) (set ticks m next) (set list m gaps) new
-arriving_next sheet run later t m first next new ticks list gaps h was b shut are e =
+-- a block before the first of its ticks
+
+none_from : (w : World) (t from k : ℕ) (m start : Moment) → m ≡ arrive_below w t from start →
+    ((o : ℕ) → from ≤ o → o < from + k → room w o t m ≡ 0) → m ≡ arrive_below w t (from + k) start
+none_from w t from zero m start is none =
+    let e : from + zero ≡ from = omega arith in
+    subst (λ j. m ≡ arrive_below w t j start) (sym e) is
+none_from w t from (suc k) m start is none =
+    let before : m ≡ arrive_below w t (from + k) start = none_from w t from k m start is (λ o a b. none o a (omega arith)) in
+    let e : from + suc k ≡ suc (from + k) = omega arith in
+    let same : m ≡ arrive_of w (from + k) t m = sym (nothing_arrives w (from + k) t m (none (from + k) (omega arith) (omega arith))) in
+    subst (λ j. m ≡ arrive_below w t j start) (sym e) (same ∙ ap (arrive_of w (from + k) t) before)
+
+pub block_still : (w : World) (t b : ℕ) (m start : Moment) (openings : Openings) → 16 * b ≤ length w.sheet.tasks →
+    AreArriving w.sheet m.run t (16 * b) openings → t < get_or openings.firsts.items b 0 → m ≡ arrive_below w t (16 * b) start →
+    m ≡ arrive_below w t (min (16 * b + 16) (length w.sheet.tasks)) start
+block_still w t b m start openings h was early is =
+    let k : ℕ = min (16 * b + 16) (length w.sheet.tasks) - 16 * b in
+    let e : 16 * b + k ≡ min (16 * b + 16) (length w.sheet.tasks) = omega (arith, h) in
+    subst (λ j. m ≡ arrive_below w t j start) e
+    (none_from w t (16 * b) k m start is (λ o a l. (
+    let listed : o < length w.sheet.tasks = omega (arith, e, l) in
+    let here : IsInBlock b o = record { from = a; to = omega (arith, e, l) } in
+    was.rest o a listed t (omega arith) (omega (arith, early, was.blocks.least b o here (omega (arith, was.tasks, listed))))
+    )))
+
+pub block_passed : (sheet : SheetParts) (run : Run) (t b m : ℕ) (openings : Openings) → 16 * b ≤ m → AreArriving sheet run t (16 * b) openings →
+    AreArriving sheet run t m openings
+block_passed sheet run t b m openings h was = record {
+  tasks = was.tasks;
+  come = λ o l i. elim (cases_lt o (16 * b)) [
+    | inl c ↦ was.come o c i
+    | inr c ↦ (λ v a e. was.rest o c i v (omega arith) e)
+  ];
+  rest = λ o l i. was.rest o (omega (arith, h, l)) i;
+  gaps = was.gaps;
+  blocks = was.blocks;
+}
+
+-- within block b, where first is no later than the ticks of its tasks so far
+pub record IsArriving (sheet : SheetParts) (run : Run) (t b m first : ℕ) (ticks : List ℕ) (list : List Gaps) (firsts : List ℕ) : Type 0 where
+  pub tasks : length ticks ≡ length sheet.tasks
+  pub come : (o : ℕ) → o < m → o < length sheet.tasks → IsShut sheet o run (suc t) (get_or ticks o 0)
+  pub rest : (o : ℕ) → m ≤ o → o < length sheet.tasks → IsShut sheet o run t (get_or ticks o 0)
+  pub gaps : HasGaps sheet list
+  pub all : length sheet.tasks < 16 * length firsts
+  pub others : (c o : ℕ) → (c ≡ b → ⊥) → IsInBlock c o → o < length ticks → get_or firsts c 0 ≤ get_or ticks o 0
+  pub least : (o : ℕ) → 16 * b ≤ o → o < m → first ≤ get_or ticks o 0
+
+pub block_start : (sheet : SheetParts) (run : Run) (t b m first : ℕ) (openings : Openings) → m ≡ 16 * b → AreArriving sheet run t (16 * b) openings →
+    IsArriving sheet run t b m first openings.ticks.items openings.gaps.items openings.firsts.items
+block_start sheet run t b m first openings e was = record {
+  tasks = was.tasks;
+  come = λ o l i. was.come o (omega (arith, e, l)) i;
+  rest = λ o l i. was.rest o (omega (arith, e, l)) i;
+  gaps = was.gaps;
+  all = was.blocks.all;
+  others = λ c o ne i l. was.blocks.least c o i l;
+  least = λ o h l. absurd (omega (arith, e, h, l));
+}
+
+pub block_next : (sheet : SheetParts) (run later : Run) (t b m first next new : ℕ) (ticks : List ℕ) (list : List Gaps) (firsts : List ℕ) (gaps : Gaps) →
+    m < length sheet.tasks → IsInBlock b m → IsArriving sheet run t b m first ticks list firsts → BeginsWith later.jobs run.jobs →
+    IsShut sheet m later (suc t) next → IsGaps (task_at sheet m).curve gaps → new ≡ min first next →
+    IsArriving sheet later t b (m + 1) new (set ticks m next) (set list m gaps) firsts
+block_next sheet run later t b m first next new ticks list firsts gaps h own was begins shut are e =
     let here : get_or (set ticks m next) m 0 ≡ next = get_or-set_same ticks m next 0 (omega (arith, was.tasks)) in
     record {
       tasks = length-set ticks m next ∙ was.tasks;
       come = λ o l i. elim (cases_eq o m) [
         | inl is ↦ subst (λ k. IsShut sheet k later (suc t) (get_or (set ticks m next) k 0)) (sym is) (subst (IsShut sheet m later (suc t)) (sym here) shut)
         | inr ne ↦ subst (IsShut sheet o later (suc t)) (sym (get_or-set_other ticks m o next 0 ne))
-            (shut_on sheet o run later (suc t) (get_or ticks o 0) b (was.come o (omega arith) i))
+            (shut_on sheet o run later (suc t) (get_or ticks o 0) begins (was.come o (omega arith) i))
       ];
       rest = λ o l i.
           subst (IsShut sheet o later t) (sym (get_or-set_other ticks m o next 0 (λ is. omega arith)))
-          (shut_on sheet o run later t (get_or ticks o 0) b (was.rest o (omega arith) i));
+          (shut_on sheet o run later t (get_or ticks o 0) begins (was.rest o (omega arith) i));
       gaps = gaps_more sheet list m gaps was.gaps h are;
-      least = λ o l. elim (cases_eq o m) [
-        | inl is ↦ omega (arith, here, ap (λ k. get_or (set ticks m next) k 0) is)
-        | inr ne ↦ omega (arith, was.least o (omega arith), get_or-set_other ticks m o next 0 ne)
+      all = was.all;
+      others = λ c o ne i l. (
+          let far : o ≡ m → ⊥ = λ is. ne (omega (arith, is, i.from, i.to, own.from, own.to)) in
+          omega (arith, get_or-set_other ticks m o next 0 far, was.others c o ne i (omega (arith, l, length-set ticks m next)))
+          );
+      least = λ o a l. elim (cases_eq o m) [
+        | inl is ↦ omega (arith, e, here, ap (λ k. get_or (set ticks m next) k 0) is)
+        | inr ne ↦ omega (arith, e, was.least o a (omega arith), get_or-set_other ticks m o next 0 ne)
       ];
     }
 
-pub arriving_end : (sheet : SheetParts) (run : Run) (t m first : ℕ) (openings : Openings) → length sheet.tasks ≤ m → openings.first ≡ first →
-    AreArriving sheet run t m openings.ticks.items openings.gaps.items first → AreOpenings sheet run (suc t) openings
-arriving_end sheet run t m first openings all e was = record {
-  shut = record { tasks = was.tasks; each = λ o h. was.come o (omega arith) h };
-  gaps = was.gaps;
-  first = λ o h. omega (arith, was.least o (omega arith));
-}
+pub block_end : (sheet : SheetParts) (run : Run) (t b m first : ℕ) (firsts : List ℕ) (openings : Openings) → b < length firsts →
+    m ≡ min (16 * b + 16) (length sheet.tasks) → openings.firsts.items ≡ set firsts b first →
+    IsArriving sheet run t b m first openings.ticks.items openings.gaps.items firsts →
+    AreArriving sheet run t (min (16 * b + 16) (length sheet.tasks)) openings
+block_end sheet run t b m first firsts openings h ends e was =
+    let len : length openings.firsts.items ≡ length firsts = ap length e ∙ length-set firsts b first in
+    record {
+      tasks = was.tasks;
+      come = λ o l i. was.come o (omega (arith, ends, l)) i;
+      rest = λ o l i. was.rest o (omega (arith, ends, l)) i;
+      gaps = was.gaps;
+      blocks = record {
+        all = omega (arith, was.all, len);
+        least = λ c o i l. elim (cases_eq c b) [
+          | inl is ↦
+              let at : get_or openings.firsts.items c 0 ≡ first =
+              ap (λ (v : List ℕ). get_or v c 0) e ∙ (ap (λ k. get_or (set firsts b first) k 0) is ∙ get_or-set_same firsts b first 0 h) in
+              omega (arith, at, was.least o (omega (arith, i.from, is)) (omega (arith, i.to, is, l, was.tasks, ends)))
+          | inr ne ↦ omega (arith, ap (λ (v : List ℕ). get_or v c 0) e, get_or-set_other firsts b c first 0 ne, was.others c o ne i l)
+        ];
+      };
+    }

@@ -1,5 +1,5 @@
 -- How the simulation stands to the run so far: the code's own invariants. Nothing here is to be believed.
-use Rattle.std.specs.Prelude.{◌≡◌, ◌≢◌, ℕ, ◌+◌, ◌<◌, ◌≤◌, List, suc, ◌⊎◌, Bool, true, false, length, Option, Some, None, slice_index_or}
+use Rattle.std.specs.Prelude.{◌≡◌, ℕ, ◌+◌, ◌<◌, ◌≤◌, List, suc, ◌⊎◌, true, false, length, Option, Some, None, slice_index_or}
 use Rattle.std.specs.BTreeMap.{BTreeMap, get, Updates}
 use Rattle.std.specs.BTreeSet.{BTreeSet, contains, Updates as UpdatesDue}
 use Rattle.std.specs.Global.{Vec}

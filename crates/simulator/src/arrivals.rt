@@ -1,5 +1,5 @@
 //! The jobs that arrive at a tick.
-ghost use Rattle.std.specs.Prelude.{◌≡◌, ◌≤◌, ◌<◌, ◌+◌, suc, length, OnOk, IfOk, IfErr};
+ghost use Rattle.std.specs.Prelude.{◌≡◌, ◌≤◌, ◌<◌, ◌+◌, ◌*◌, suc, length, min, OnOk, IfOk, IfErr};
 ghost use Rattle.lists.specs.Limits.{most_ticks};
 ghost use Rattle.task_sheet.specs.Sheets.{task_at};
 ghost use Rattle.preemption.specs.CutLaws.{Serves};
@@ -7,12 +7,12 @@ ghost use Rattle.simulated_run.specs.SimulatedRun.{with_job, add_job as add_job_
 ghost use Rattle.simulator.specs.Simulations.{IsRefusal};
 ghost use Rattle.simulator.specs.Openings.{IsShut};
 ghost use Rattle.simulator.specs.Gaps.{IsGaps};
-ghost use Rattle.simulator.specs.AllOpenings.{AreOpenings};
+ghost use Rattle.simulator.specs.AllOpenings.{AreOpenings, AreArriving};
 ghost use Rattle.simulator.specs.SimulationState.{IsReady, IsTakenUp, IsNew, world_by, run_of, moment_of, moment_with};
 
 use crate::gaps::{Gaps, cover, next_opening, room};
 use crate::loads::draw_load;
-use crate::openings::Openings;
+use crate::openings::{BLOCK, Openings, least};
 use crate::refusal::SimRefusal;
 use crate::simulation::{Due, Simulation};
 use crate::words::{draw_count, draw_release};
@@ -96,7 +96,8 @@ fn add_job<P: Policy, M: Tabled>(
         add_job_by (world_by P.meaning M.cuts sheet.now mode) o t (moment_of simulation.old)) }
     ensures kept { OnOk result (IsReady P.meaning M.cuts sheet.now t simulation.new) }
     ensures refusal { IfErr result (IsRefusal
-        (add_job_by (world_by P.meaning M.cuts sheet.now mode) o t (moment_of simulation.old)).run.jobs) }
+        (add_job_by (world_by P.meaning M.cuts sheet.now mode) o t
+        (moment_of simulation.old)).run.jobs) }
 {
     if simulation.jobs.len() >= MOST_JOBS {
         return Err(SimRefusal::Jobs);
@@ -142,7 +143,8 @@ fn add_jobs<P: Policy, M: Tabled>(
         add_jobs_by (world_by P.meaning M.cuts sheet.now mode) o t n (moment_of simulation.old)) }
     ensures kept { OnOk result (IsReady P.meaning M.cuts sheet.now t simulation.new) }
     ensures refusal { IfErr result (IsRefusal
-        (add_jobs_by (world_by P.meaning M.cuts sheet.now mode) o t n (moment_of simulation.old)).run.jobs) }
+        (add_jobs_by (world_by P.meaning M.cuts sheet.now mode) o t n
+        (moment_of simulation.old)).run.jobs) }
 {
     for i in 0..n {
         add_job::<P, M>(alloc, sheet, mode, simulation, o, t)?;
@@ -164,13 +166,15 @@ fn arrive_of<P: Policy, M: Tabled>(
     requires time { t ≤ most_ticks }
     requires served { Serves M.cuts sheet.now }
     requires kept { IsReady P.meaning M.cuts sheet.now t simulation.old }
-    requires stage { moment_of simulation.old ≡ moment_with (world_by P.meaning M.cuts sheet.now mode) t o }
+    requires stage { moment_of simulation.old ≡
+        moment_with (world_by P.meaning M.cuts sheet.now mode) t o }
     requires gaps { IsGaps (task_at sheet.now o).curve gaps.now }
     ensures moment { OnOk result (moment_of simulation.new ≡
         arrive_of_by (world_by P.meaning M.cuts sheet.now mode) o t (moment_of simulation.old)) }
     ensures kept { OnOk result (IsReady P.meaning M.cuts sheet.now t simulation.new) }
     ensures refusal { IfErr result (IsRefusal
-        (arrive_of_by (world_by P.meaning M.cuts sheet.now mode) o t (moment_of simulation.old)).run.jobs) }
+        (arrive_of_by (world_by P.meaning M.cuts sheet.now mode) o t
+        (moment_of simulation.old)).run.jobs) }
 {
     let curve = &sheet.task(o).curve;
     let room = room(curve, gaps, &simulation.arrivals[o as usize], t);
@@ -178,7 +182,8 @@ fn arrive_of<P: Policy, M: Tabled>(
     add_jobs::<P, M>(alloc, sheet, mode, simulation, o, t, n)
 }
 
-/// The jobs of task `o` that arrive at `t`, none of which may before `start`; and from when on the next may.
+/// The jobs of task `o` that arrive at `t`, none of which may before `start`; and from when on the
+/// next may.
 fn arrive_from<P: Policy, M: Tabled>(
     alloc: Global,
     sheet: &Sheet,
@@ -193,7 +198,8 @@ fn arrive_from<P: Policy, M: Tabled>(
     requires time { t ≤ most_ticks }
     requires served { Serves M.cuts sheet.now }
     requires kept { IsReady P.meaning M.cuts sheet.now t simulation.old }
-    requires stage { moment_of simulation.old ≡ moment_with (world_by P.meaning M.cuts sheet.now mode) t o }
+    requires stage { moment_of simulation.old ≡
+        moment_with (world_by P.meaning M.cuts sheet.now mode) t o }
     requires shut { IsShut sheet.now o (run_of simulation.old) t start }
     requires gaps { IsGaps (task_at sheet.now o).curve gaps.old }
     ensures moment { OnOk result (moment_of simulation.new ≡
@@ -202,16 +208,63 @@ fn arrive_from<P: Policy, M: Tabled>(
     ensures gaps { OnOk result (IsGaps (task_at sheet.now o).curve gaps.new) }
     ensures shut { IfOk result (IsShut sheet.now o (run_of simulation.new) (suc t)) }
     ensures refusal { IfErr result (IsRefusal
-        (arrive_of_by (world_by P.meaning M.cuts sheet.now mode) o t (moment_of simulation.old)).run.jobs) }
+        (arrive_of_by (world_by P.meaning M.cuts sheet.now mode) o t
+        (moment_of simulation.old)).run.jobs) }
 {
     if t < start {
         return Ok(start);
     }
-    arrive_of::<P, M>(alloc, sheet, mode, simulation, gaps, o, t)?;
     let curve = &sheet.task(o).curve;
+    cover(curve, gaps, &simulation.arrivals[o as usize])?;
+    arrive_of::<P, M>(alloc, sheet, mode, simulation, gaps, o, t)?;
     let arrivals = simulation.arrivals[o as usize].as_slice();
-    cover(curve, gaps, arrivals)?;
     Ok(next_opening(curve, gaps, arrivals, t + 1))
+}
+
+/// The jobs of the tasks of block `b` that arrive at `t`.
+fn arrive_block<P: Policy, M: Tabled>(
+    alloc: Global,
+    sheet: &Sheet,
+    mode: Mode,
+    simulation: &mut Simulation,
+    openings: &mut Openings,
+    b: u32,
+    t: u64,
+) -> Result<(), SimRefusal>
+    requires time { t ≤ most_ticks }
+    requires block { 16 * b ≤ length sheet.now.tasks }
+    requires listed { b < length openings.old.firsts.items }
+    requires served { Serves M.cuts sheet.now }
+    requires kept { IsReady P.meaning M.cuts sheet.now t simulation.old }
+    requires stage { moment_of simulation.old ≡
+        moment_with (world_by P.meaning M.cuts sheet.now mode) t (16 * b) }
+    requires openings { AreArriving sheet.now (run_of simulation.old) t (16 * b) openings.old }
+    ensures moment { OnOk result (moment_of simulation.new ≡
+        moment_with (world_by P.meaning M.cuts sheet.now mode) t
+        (min (16 * b + 16) (length sheet.now.tasks))) }
+    ensures kept { OnOk result (IsReady P.meaning M.cuts sheet.now t simulation.new) }
+    ensures openings { OnOk result (AreArriving sheet.now (run_of simulation.new) t
+        (min (16 * b + 16) (length sheet.now.tasks)) openings.new) }
+    ensures refusal { IfErr result (IsRefusal
+        (moment_with (world_by P.meaning M.cuts sheet.now mode) t
+        (length sheet.now.tasks)).run.jobs) }
+{
+    if t < openings.firsts[b as usize] {
+        return Ok(());
+    }
+    let tasks = sheet.len();
+    let from = BLOCK * b;
+    let to = (from + BLOCK).min(tasks);
+    let mut first = u64::MAX;
+    for o in from..to {
+        let before = openings.ticks[o as usize];
+        let gaps = &mut openings.gaps[o as usize];
+        let next = arrive_from::<P, M>(alloc, sheet, mode, simulation, gaps, o, t, before)?;
+        openings.ticks[o as usize] = next;
+        first = first.min(next);
+    }
+    openings.firsts[b as usize] = first;
+    Ok(())
 }
 
 /// The jobs of all tasks that arrive at `t`.
@@ -226,24 +279,23 @@ fn arrive_each<P: Policy, M: Tabled>(
     requires time { t ≤ most_ticks }
     requires served { Serves M.cuts sheet.now }
     requires kept { IsReady P.meaning M.cuts sheet.now t simulation.old }
-    requires stage { moment_of simulation.old ≡ moment_after (world_by P.meaning M.cuts sheet.now mode) t }
+    requires stage { moment_of simulation.old ≡
+        moment_after (world_by P.meaning M.cuts sheet.now mode) t }
     requires openings { AreOpenings sheet.now (run_of simulation.old) t openings.old }
     ensures moment { OnOk result (moment_of simulation.new ≡
         moment_with (world_by P.meaning M.cuts sheet.now mode) t (length sheet.now.tasks)) }
     ensures kept { OnOk result (IsReady P.meaning M.cuts sheet.now t simulation.new) }
-    ensures openings { OnOk result (AreOpenings sheet.now (run_of simulation.new) (suc t) openings.new) }
+    ensures openings { OnOk result
+        (AreOpenings sheet.now (run_of simulation.new) (suc t) openings.new) }
     ensures refusal { IfErr result (IsRefusal
-        (moment_with (world_by P.meaning M.cuts sheet.now mode) t (length sheet.now.tasks)).run.jobs) }
+        (moment_with (world_by P.meaning M.cuts sheet.now mode) t
+        (length sheet.now.tasks)).run.jobs) }
 {
-    let mut first = u64::MAX;
-    for o in 0..sheet.len() {
-        let before = openings.ticks[o as usize];
-        let gaps = &mut openings.gaps[o as usize];
-        let next = arrive_from::<P, M>(alloc, sheet, mode, simulation, gaps, o, t, before)?;
-        openings.ticks[o as usize] = next;
-        first = first.min(next);
+    let tasks = sheet.len();
+    for b in 0..tasks / BLOCK + 1 {
+        arrive_block::<P, M>(alloc, sheet, mode, simulation, openings, b, t)?;
     }
-    openings.first = first;
+    openings.first = least(&openings.firsts);
     Ok(())
 }
 
@@ -259,14 +311,17 @@ pub fn arrive<P: Policy, M: Tabled>(
     requires time { t ≤ most_ticks }
     requires served { Serves M.cuts sheet.now }
     requires kept { IsReady P.meaning M.cuts sheet.now t simulation.old }
-    requires stage { moment_of simulation.old ≡ moment_after (world_by P.meaning M.cuts sheet.now mode) t }
+    requires stage { moment_of simulation.old ≡
+        moment_after (world_by P.meaning M.cuts sheet.now mode) t }
     requires openings { AreOpenings sheet.now (run_of simulation.old) t openings.old }
     ensures moment { OnOk result (moment_of simulation.new ≡
         moment_with (world_by P.meaning M.cuts sheet.now mode) t (length sheet.now.tasks)) }
     ensures kept { OnOk result (IsReady P.meaning M.cuts sheet.now t simulation.new) }
-    ensures openings { OnOk result (AreOpenings sheet.now (run_of simulation.new) (suc t) openings.new) }
+    ensures openings { OnOk result
+        (AreOpenings sheet.now (run_of simulation.new) (suc t) openings.new) }
     ensures refusal { IfErr result (IsRefusal
-        (moment_with (world_by P.meaning M.cuts sheet.now mode) t (length sheet.now.tasks)).run.jobs) }
+        (moment_with (world_by P.meaning M.cuts sheet.now mode) t
+        (length sheet.now.tasks)).run.jobs) }
 {
     if t < openings.first {
         return Ok(());

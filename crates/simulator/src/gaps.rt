@@ -1,12 +1,12 @@
 //! How far apart the jobs of a task arrive at least.
-ghost use Rattle.std.specs.Prelude.{◌≡◌, ◌≤◌, ◌<◌, ◌+◌, ◌++◌, ◌∷◌, [], ℕ, cond, length, slice_index, OnOk, IfOk, IfSome};
+ghost use Rattle.std.specs.Prelude.{◌≡◌, ◌≤◌, ◌<◌, ◌+◌, ◌-◌, ◌*◌, ◌++◌, ◌∷◌, [], ℕ, cond, length, slice_index, slice_index_or, OnOk, IfOk, IfSome};
 ghost use Rattle.std.specs.List.Sorted.{IsNonDecreasing};
-ghost use Rattle.lists.specs.Limits.{greatest_length, most_ticks};
+ghost use Rattle.lists.specs.Limits.{greatest_length, greatest_value, most_ticks};
 ghost use Rattle.curve.specs.CurveValue.{Curve};
 ghost use Rattle.curve.specs.Validity.{IsCurve};
 ghost use Rattle.windows.specs.Arrivals.{IsPast, allowance_in};
 ghost use Rattle.simulator.specs.Openings.{IsShutFor};
-ghost use Rattle.simulator.specs.Gaps.{IsWindow, IsGaps, AreLow, AreNear, opened_by, earliest_by};
+ghost use Rattle.simulator.specs.Gaps.{IsWindow, IsGaps, AreLow, AreNear, AreRising, gap_at, with_more, earliest_by};
 
 use curve::Prefix;
 use lists::limits::{GREATEST_LENGTH, MOST_JOBS};
@@ -57,36 +57,72 @@ fn next_window(curve: &Prefix, n: u64, window: u64) -> Option<u64>
     }
 }
 
-/// How early a gap lets the next job come.
-fn opened(gap: Gap, arrivals: &[u64]) -> u64
-    requires low { 1 ≤ gap.count }
-    requires high { gap.distance ≤ greatest_length }
-    requires near { AreNear arrivals.now }
-    ensures { result ≡ opened_by arrivals.now gap }
+/// How many of the gaps are of so many jobs at most.
+fn counted(gaps: &[Gap], most: usize) -> usize
+    requires { AreRising gaps.now }
+    ensures few { result ≤ length gaps.now }
+    ensures near { (i : ℕ) → i < result → (gap_at gaps.now i).count ≤ most }
+    ensures far { (i : ℕ) → result ≤ i → i < length gaps.now → most < (gap_at gaps.now i).count }
 {
-    if gap.count <= arrivals.len() {
-        arrivals[arrivals.len() - gap.count] + gap.distance
+    gaps.partition_point(|gap| gap.count <= most)
+}
+
+/// When the job `count` places before the next one arrived, where `n` more than these arrive at
+/// `t`.
+fn before(arrivals: &[u64], n: usize, t: u64, count: usize) -> u64
+    requires low { 1 ≤ count }
+    requires listed { count ≤ length arrivals.now + n }
+    requires near { AreNear (with_more arrivals.now n t) }
+    ensures small { result ≤ greatest_length }
+    ensures job { result ≡
+        slice_index_or (with_more arrivals.now n t) (length arrivals.now + n - count) 0 }
+{
+    if count <= n {
+        t
     } else {
-        0
+        arrivals[arrivals.len() - (count - n)]
     }
+}
+
+/// How early all gaps let the next job come, after the arrivals and `n` more jobs at `t`.
+///
+/// The gaps of the most jobs are looked at first. The others do not matter once none of their
+/// distances is long enough, whichever arrival it is counted from.
+fn earliest_after(gaps: &[Gap], arrivals: &[u64], n: usize, t: u64) -> u64
+    requires low { AreLow gaps.now }
+    requires rising { AreRising gaps.now }
+    requires few { n ≤ 2 * greatest_value }
+    requires near { AreNear (with_more arrivals.now n t) }
+    requires ascending { IsNonDecreasing (with_more arrivals.now n t) }
+    ensures { result ≡ earliest_by gaps.now (with_more arrivals.now n t) }
+{
+    let count = counted(gaps, arrivals.len() + n);
+    let mut tick = 0;
+    for i in (0..count).rev() {
+        let latest = before(arrivals, n, t, gaps[0].count);
+        if latest + gaps[i].distance <= tick {
+            break;
+        }
+        tick = tick.max(before(arrivals, n, t, gaps[i].count) + gaps[i].distance);
+    }
+    tick
 }
 
 /// How early all gaps let the next job come.
 fn earliest(gaps: &[Gap], arrivals: &[u64]) -> u64
     requires low { AreLow gaps.now }
+    requires rising { AreRising gaps.now }
     requires near { AreNear arrivals.now }
+    requires ascending { IsNonDecreasing arrivals.now }
     ensures { result ≡ earliest_by gaps.now arrivals.now }
 {
-    let mut tick = 0;
-    for i in 0..gaps.len() {
-        tick = tick.max(opened(gaps[i], arrivals));
-    }
-    tick
+    earliest_after(gaps, arrivals, 0, 0)
 }
 
 /// One gap more, if it is needed.
 fn add_gap(gaps: &mut Vec<Gap>, gap: Gap, needed: bool) -> Result<(), AllocError>
-    ensures { OnOk result (gaps.new.items ≡ cond needed (gaps.old.items ++ gap ∷ []) gaps.old.items) }
+    ensures { OnOk result (gaps.new.items ≡
+        cond needed (gaps.old.items ++ gap ∷ []) gaps.old.items) }
 {
     if needed {
         gaps.push(gap)?;
@@ -122,12 +158,15 @@ fn extend(curve: &Prefix, gaps: &mut Gaps) -> Result<(), AllocError>
     Ok(())
 }
 
-/// The gaps up to the one from the first of the arrivals to the next job.
+/// The gaps between the first of the arrivals and the next jobs, with as many of these as one tick
+/// may have, up to the most jobs of a run.
 pub fn cover(curve: &Prefix, gaps: &mut Gaps, arrivals: &[u64]) -> Result<(), AllocError>
     requires { IsGaps curve.now gaps.old }
     ensures { OnOk result (IsGaps curve.now gaps.new) }
 {
-    for _n in gaps.densest.len()..arrivals.len() + 1 {
+    let more = curve.at(1).min(MOST_JOBS as u128) as usize;
+    let most = (arrivals.len() + more).min(MOST_JOBS) + 1;
+    for _n in gaps.densest.len()..most {
         extend(curve, gaps)?;
     }
     Ok(())
@@ -146,7 +185,7 @@ pub fn next_opening(curve: &Prefix, gaps: &Gaps, arrivals: &[u64], t: u64) -> u6
 
 /// How many jobs of a task may arrive at tick `t`, after the given arrivals.
 ///
-/// Where one alone may arrive at a tick, the gaps tell whether it may.
+/// So many are tried one after the other, each by the gaps to those before it.
 pub fn room(curve: &Prefix, gaps: &Gaps, arrivals: &[u64], t: u64) -> u64
     requires gaps { IsGaps curve.now gaps.now }
     requires past { IsPast curve.now arrivals.now t }
@@ -155,12 +194,14 @@ pub fn room(curve: &Prefix, gaps: &Gaps, arrivals: &[u64], t: u64) -> u64
 {
     // the curve is valid, by a clause of this call
     let _horizon = curve.horizon();
-    if curve.at(1) > 1 || gaps.densest.len() <= arrivals.len() {
-        return allowance(curve, arrivals, t);
+    let most = curve.at(1) as u64;
+    for n in 0..most {
+        if gaps.densest.len() <= arrivals.len() + n as usize {
+            return allowance(curve, arrivals, t);
+        }
+        if t < earliest_after(&gaps.gaps, arrivals, n as usize, t) {
+            return n;
+        }
     }
-    if earliest(&gaps.gaps, arrivals) <= t {
-        1
-    } else {
-        0
-    }
+    most
 }

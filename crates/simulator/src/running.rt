@@ -7,6 +7,7 @@ ghost use Rattle.preemption.specs.CutLaws.{Serves};
 ghost use Rattle.supply.specs.Promises.{sbf_of};
 ghost use Rattle.run_text.specs.Text.{IsWithinLimits};
 ghost use Rattle.schedule_laws.specs.Compliance.{IsCompliant};
+ghost use Rattle.windows.specs.Times.{AreNeededTimes};
 ghost use Rattle.simulated_run.specs.declared.mode.Mode.TheVariants.{Dense};
 ghost use Rattle.simulated_run.specs.Laws.{IsDense};
 ghost use Rattle.simulated_run.specs.SimulatedRun.{World, world_of, seed_of as seed_by, moment_after};
@@ -31,6 +32,7 @@ use std::alloc::{AllocError, Global};
 use std::collections::{BTreeMap, BTreeSet};
 use supply::Supply;
 use task_sheet::Sheet;
+use windows::{PromisedTime, needed_times};
 
 fn seed_of(mode: Mode) -> u64
     ensures { (w : World) → result ≡ seed_by w mode }
@@ -97,23 +99,28 @@ fn run_tick<P: Policy, M: Tabled>(
     mode: Mode,
     simulation: &mut Simulation,
     openings: &mut Openings,
+    needed: &[PromisedTime],
     t: u64,
 ) -> Result<(), SimRefusal>
     requires time { t ≤ most_ticks }
     requires served { Serves M.cuts sheet.now }
     requires kept { IsKept P.meaning M.cuts sheet.now t simulation.old }
-    requires stage { moment_of simulation.old ≡ moment_after (world_by P.meaning M.cuts sheet.now mode) t }
+    requires stage { moment_of simulation.old ≡
+        moment_after (world_by P.meaning M.cuts sheet.now mode) t }
     requires openings { AreOpenings sheet.now (run_of simulation.old) t openings.old }
+    requires needed { AreNeededTimes sheet.now.supply needed.now }
     ensures moment { OnOk result (moment_of simulation.new ≡
         moment_after (world_by P.meaning M.cuts sheet.now mode) (suc t)) }
     ensures kept { OnOk result (IsKept P.meaning M.cuts sheet.now (suc t) simulation.new) }
-    ensures openings { OnOk result (AreOpenings sheet.now (run_of simulation.new) (suc t) openings.new) }
+    ensures openings { OnOk result
+        (AreOpenings sheet.now (run_of simulation.new) (suc t) openings.new) }
     ensures refusal { IfErr result (IsRefusal
-        (moment_with (world_by P.meaning M.cuts sheet.now mode) t (length sheet.now.tasks)).run.jobs) }
+        (moment_with (world_by P.meaning M.cuts sheet.now mode) t
+        (length sheet.now.tasks)).run.jobs) }
 {
     let_in::<P, M>(sheet, simulation, t)?;
     arrive::<P, M>(alloc, sheet, mode, simulation, openings, t)?;
-    add_tick::<P, M>(sheet, mode, simulation, t)?;
+    add_tick::<P, M>(sheet, mode, needed, simulation, t)?;
     Ok(())
 }
 
@@ -133,7 +140,8 @@ pub fn simulate<P: Policy, M: Tabled, S: Supply>(
     requires ticks { n ≤ most_ticks }
     requires served { Serves M.cuts sheet.now }
     requires stated { S.sbf supply.now ≡ sbf_of sheet.now.supply }
-    ensures exact { IsSimulation (world_of P.meaning M.cuts (S.sbf supply.now) sheet.now mode) n result }
+    ensures exact { IsSimulation
+        (world_of P.meaning M.cuts (S.sbf supply.now) sheet.now mode) n result }
     ensures complies { IfOk result (IsCompliant P.meaning M.cuts (S.sbf supply.now) sheet.now) }
     ensures full { mode ≡ Dense → IfOk result (IsDense sheet.now n) }
     ensures within { IfOk result IsWithinLimits }
@@ -144,8 +152,17 @@ pub fn simulate<P: Policy, M: Tabled, S: Supply>(
     dense_is_full::<P, M, S>();
     let mut simulation = start::<P, M>(alloc, sheet, mode)?;
     let mut openings = open_all(alloc, sheet.len())?;
+    let needed = needed_times(alloc, sheet)?;
     for t in 0..n {
-        run_tick::<P, M>(alloc, sheet, mode, &mut simulation, &mut openings, t)?;
+        run_tick::<P, M>(
+            alloc,
+            sheet,
+            mode,
+            &mut simulation,
+            &mut openings,
+            &needed,
+            t,
+        )?;
     }
     let Simulation { jobs, ticks, .. } = simulation;
     Ok(Run {

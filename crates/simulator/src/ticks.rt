@@ -8,6 +8,7 @@ ghost use Rattle.run_model.specs.declared.run.Tick.TheVariants.{Off, Runs as Run
 ghost use Rattle.run_model.specs.Runs.{is_on as is_on_by};
 ghost use Rattle.simulated_run.specs.SimulatedRun.{World, choice, with_tick, add_tick as add_tick_by};
 ghost use Rattle.urgency.specs.Ranks.{rank_cmp};
+ghost use Rattle.windows.specs.Times.{AreNeededTimes};
 ghost use Rattle.simulator.specs.SimulationState.{IsKept, IsReady, IsKeptAt, IsRunnable, MayBe, FloatsBy, KeepsRest, HasCuts, world_by, run_of, moment_of, moment_with};
 
 use crate::simulation::Simulation;
@@ -20,7 +21,7 @@ use std::alloc::AllocError;
 use std::collections::BTreeMap;
 use task_sheet::{Cut, Job, Sheet, Task};
 use urgency::{Rank, first_entry, rank_of};
-use windows::off_allowed;
+use windows::{PromisedTime, off_allowed_by};
 
 /// What the processor does where it is supplied.
 fn choose(simulation: &Simulation) -> Tick
@@ -83,7 +84,8 @@ fn run_job<P: Policy, M: Tabled>(sheet: &Sheet, simulation: &mut Simulation, k: 
     requires runnable { IsRunnable simulation.old (length simulation.old.ticks.items) k }
     requires time { length simulation.old.ticks.items ≤ most_ticks }
     requires served { Serves M.cuts sheet.now }
-    requires kept { IsReady P.meaning M.cuts sheet.now (length simulation.old.ticks.items) simulation.old }
+    requires kept { IsReady P.meaning M.cuts sheet.now
+        (length simulation.old.ticks.items) simulation.old }
     ensures rest { KeepsRest simulation.old simulation.new }
     ensures kept { IsKeptAt P.meaning M.cuts sheet.now (suc (length simulation.old.ticks.items))
         (suc (length simulation.old.ticks.items)) (suc (length simulation.old.ticks.items))
@@ -106,7 +108,8 @@ fn advance<P: Policy, M: Tabled>(sheet: &Sheet, simulation: &mut Simulation, tic
     requires tick { MayBe simulation.old (length simulation.old.ticks.items) tick }
     requires time { length simulation.old.ticks.items ≤ most_ticks }
     requires served { Serves M.cuts sheet.now }
-    requires kept { IsReady P.meaning M.cuts sheet.now (length simulation.old.ticks.items) simulation.old }
+    requires kept { IsReady P.meaning M.cuts sheet.now
+        (length simulation.old.ticks.items) simulation.old }
     ensures rest { KeepsRest simulation.old simulation.new }
     ensures kept { IsKeptAt P.meaning M.cuts sheet.now (suc (length simulation.old.ticks.items))
         (suc (length simulation.old.ticks.items)) (suc (length simulation.old.ticks.items))
@@ -132,6 +135,7 @@ fn count_on(tick: Tick) -> u64
 pub fn add_tick<P: Policy, M: Tabled>(
     sheet: &Sheet,
     mode: Mode,
+    needed: &[PromisedTime],
     simulation: &mut Simulation,
     t: u64,
 ) -> Result<(), AllocError>
@@ -140,13 +144,14 @@ pub fn add_tick<P: Policy, M: Tabled>(
     requires kept { IsReady P.meaning M.cuts sheet.now t simulation.old }
     requires stage { moment_of simulation.old ≡
         moment_with (world_by P.meaning M.cuts sheet.now mode) t (length sheet.now.tasks) }
+    requires needed { AreNeededTimes sheet.now.supply needed.now }
     ensures moment { OnOk result (moment_of simulation.new ≡
         add_tick_by (world_by P.meaning M.cuts sheet.now mode) t (moment_of simulation.old)) }
     ensures kept { OnOk result (IsKept P.meaning M.cuts sheet.now (suc t) simulation.new) }
 {
     // the sheet is valid, by a clause of this call
     let _valid = sheet.len();
-    let may = off_allowed(sheet, &simulation.counts, t);
+    let may = off_allowed_by(sheet, needed, &simulation.counts, t);
     let off = draw_off(mode, may, &mut simulation.words);
     let tick = pick(simulation, off);
     advance::<P, M>(sheet, simulation, tick);

@@ -1,4 +1,4 @@
-use Rattle.std.proofs.Common.{◌≡◌, ℕ, zero, suc, ◌+◌, ◌-◌, ◌≤◌, false, Some, None, List, [], ◌∷◌, map, ap, ◌∙◌, subst, arith, inl, inr}
+use Rattle.std.proofs.Common.{◌≡◌, ℕ, zero, suc, ◌+◌, ◌-◌, ◌≤◌, false, Some, None, List, [], ◌∷◌, map, sym, ap, ◌∙◌, subst, arith, inl, inr}
 use Rattle.std.specs.List.{AllByRecursion}
 use Rattle.std.proofs.lemmas.Bool.{cases_Bool}
 use Rattle.lists.specs.Searches.{IsLeast}
@@ -11,7 +11,10 @@ use Rattle.search_space.specs.Points.{is_point}
 use Rattle.search_space.proofs.PointFacts.{same_before}
 use Rattle.certificate.specs.declared.cert.Entry.{Entry}
 use Rattle.certificate.specs.declared.cert.Point.{Point}
-use Rattle.conditions.specs.Meets.{pairs_of, TaskMeets}
+use Rattle.certificate.specs.declared.cert.Terms.{Terms}
+use Rattle.certificate.specs.Text.{lines_of}
+use Rattle.conditions.specs.Meets.{pairs_of, LinesTell, TaskMeets}
+use Rattle.conditions.proofs.MeetFacts.{none_told}
 use Rattle.solver.specs.Points.{passing, points_below}
 use Rattle.solver.specs.Best.{IsBestEntry}
 use Rattle.solver.proofs.Listing.{point_zero}
@@ -83,4 +86,5 @@ module _ (p : PolicyMeaning) (m : CutMeaning) (sbf : ℕ → ℕ) (sheet : Sheet
     in_time = tt;
     points = chain_first p m sbf sheet i e.window e.bound e.points best.window.holds.positive best.offsets
         (holds_each e.bound e.window e.points best.ends best.bound.holds.each);
+    terms = subst (λ (ts : List Terms). LinesTell p m sheet i (lines_of e.points ts)) (sym best.plain) (none_told p m sbf sheet i e.points);
   }

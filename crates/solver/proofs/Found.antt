@@ -51,7 +51,7 @@ module _ (end : ℕ → ℕ) where
 
 module _ (p : PolicyMeaning) (m : CutMeaning) (sbf : ℕ → ℕ) (sheet : SheetParts) (laws : Laws p m sbf sheet) where
   -- the entry of the function is the best one
-  best_entry_found : (i window : ℕ) → i < length sheet.tasks → IsLeast (IsWindow p m sbf sheet i) window →
+  pub best_entry_found : (i window : ℕ) → i < length sheet.tasks → IsLeast (IsWindow p m sbf sheet i) window →
       IsBestEntry p m sbf sheet i (best_of_window p m sbf sheet i window)
   unfolding best_of_window best_points
   best_entry_found i window in_range least =
@@ -75,7 +75,7 @@ module _ (p : PolicyMeaning) (m : CutMeaning) (sbf : ℕ → ℕ) (sheet : Sheet
         plain = refl;
       }
 
-  its_window : (i window : ℕ) → (best_of_window p m sbf sheet i window).window ≡ window
+  pub its_window : (i window : ℕ) → (best_of_window p m sbf sheet i window).window ≡ window
   unfolding best_of_window
   its_window i window = refl
 

@@ -24,7 +24,7 @@ module _ (p : PolicyMeaning) (m : CutMeaning) (sbf : ℕ → ℕ) (sheet : Sheet
   below_each window bound before (q ∷ qs) meet = (meet.0.below, below_each window bound (Some q.offset) qs meet.1)
 
   -- a bound that serves at an offset serves with the least end
-  with_least : (bound a x y : ℕ) → IsLeast (MeetsEnd p m sbf sheet i a) x → MeetsAt p m sbf sheet i bound a y → MeetsBound p m sbf sheet i a x bound
+  pub with_least : (bound a x y : ℕ) → IsLeast (MeetsEnd p m sbf sheet i a) x → MeetsAt p m sbf sheet i bound a y → MeetsBound p m sbf sheet i a x bound
   with_least bound a x y least serves =
       let le : x ≤ y = least.least y serves.end in
       record { end = omega (arith, serves.within.end); enough = omega (arith, serves.within.enough, laws.need_grows i a x y in_range le) }

@@ -2,6 +2,7 @@ pub mod LawFacts
 pub mod Rises
 pub mod Jumps
 pub mod WindowFacts
+pub mod LoadFacts
 pub mod Listing
 pub mod Chain
 pub mod Least
@@ -11,3 +12,4 @@ pub mod Found
 pub mod Single
 pub mod Theorems
 pub mod Worked
+pub mod BoundFacts

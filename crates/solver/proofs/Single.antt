@@ -60,7 +60,7 @@ module _ (p : PolicyMeaning) (m : CutMeaning) (sbf : ℕ → ℕ) (sheet : Sheet
       cc
 
   -- a task has one best entry
-  same_entry : (i : ℕ) (e f : Entry) → IsBestEntry p m sbf sheet i e → IsBestEntry p m sbf sheet i f → e ≡ f
+  pub same_entry : (i : ℕ) (e f : Entry) → IsBestEntry p m sbf sheet i e → IsBestEntry p m sbf sheet i f → e ≡ f
   same_entry i e f a b =
       let window : e.window ≡ f.window = same_least _ _ _ a.window b.window in
       let points : e.points ≡ f.points = same_points i e.points f.points (a.offsets ∙ ap (points_below p sheet i) window ∙ sym b.offsets) a.ends b.ends in

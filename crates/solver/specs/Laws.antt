@@ -11,6 +11,8 @@ pub record Laws (p : PolicyMeaning) (m : CutMeaning) (sbf : ℕ → ℕ) (sheet 
   pub valid : IsValidSheet sheet
   -- supply and demand do not fall as a window grows
   pub rises : (d : ℕ) → sbf d ≤ sbf (d + 1)
+  -- and no window is supplied more ticks than it has
+  pub within : (d : ℕ) → sbf d ≤ d
   pub need_grows : (i a x y : ℕ) → i < length sheet.tasks → x ≤ y → need_of p m sheet i a x ≤ need_of p m sheet i a y
   pub window_grows : (i k l : ℕ) → i < length sheet.tasks → k ≤ l → window_need_of p m sheet i k ≤ window_need_of p m sheet i l
   -- what a job needs and the rest of it fit into the demand of its class

@@ -5,3 +5,5 @@ pub mod Outcome
 pub mod Answer
 pub mod Ends
 pub mod Windows
+pub mod Bounds
+pub mod Loads

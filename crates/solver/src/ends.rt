@@ -8,7 +8,9 @@ ghost use Rattle.demand.specs.Meeting.{MeetsEnd};
 ghost use Rattle.meter.specs.Meters.{meter_at};
 ghost use Rattle.solver.specs.Ends.{HasNoEndBefore};
 
+use crate::caps::end_bound;
 use crate::laws::{laws, need_rises};
+use crate::pace::Pace;
 use meter::Meter;
 use policy::Policy;
 use preemption::Preemption;
@@ -38,14 +40,19 @@ pub fn next_end<P: Policy, M: Preemption, S: Supply>(
 {
     laws::<P, M, S>(sheet, supply);
     let mut end = begin;
+    let mut pace = Pace::new();
     while end <= limit {
-        let Some(next) = supply.least(meter.need(), limit) else {
+        let wanted = meter.need();
+        let Some(next) = supply.least(wanted, limit) else {
             return None;
         };
         if next <= end {
             return Some(end);
         }
-        end = next;
+        end = next.max(end_bound::<P, M>(sheet, i, a, end, wanted, limit, next, &mut pace));
+        if end > limit {
+            return None;
+        }
         meter.move_to(a, end);
     }
     None

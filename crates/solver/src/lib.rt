@@ -2,13 +2,18 @@
 #![tactic(auto)]
 
 mod analysis;
+mod bounds;
+mod caps;
 mod ends;
 mod entries;
 mod laws;
+mod load;
 mod meaning;
+mod pace;
 mod searches;
 mod windows;
 
 pub use analysis::{AnalyseRefusal, Part, analyse};
+pub use bounds::{task_bound, task_has_one_bound};
 pub use meaning::analysis_has_one_answer;
 pub use searches::{least_bound, least_end, least_window};

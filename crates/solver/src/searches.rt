@@ -9,7 +9,9 @@ ghost use Rattle.preemption.specs.CutLaws.{Serves};
 ghost use Rattle.demand.specs.Demand.{need_of, rest_of};
 ghost use Rattle.demand.specs.Meeting.{IsWindow, MeetsEnd, BoundMeets};
 
+use crate::caps::{end_bound, window_bound};
 use crate::laws::laws;
+use crate::pace::Pace;
 use demand::{need, rest, window_need};
 use policy::Policy;
 use preemption::Preemption;
@@ -30,14 +32,16 @@ pub fn least_window<P: Policy, M: Preemption, S: Supply>(
 {
     laws::<P, M, S>(sheet, supply);
     let mut window = 1;
+    let mut pace = Pace::new();
     while window <= horizon {
-        let Some(next) = supply.least(window_need::<P, M>(sheet, i, window), horizon) else {
+        let wanted = window_need::<P, M>(sheet, i, window);
+        let Some(next) = supply.least(wanted, horizon) else {
             return None;
         };
         if next <= window {
             return Some(window);
         }
-        window = next;
+        window = next.max(window_bound::<P, M>(sheet, i, window, wanted, horizon, next, &mut pace));
     }
     None
 }
@@ -59,14 +63,16 @@ pub fn least_end<P: Policy, M: Preemption, S: Supply>(
 {
     laws::<P, M, S>(sheet, supply);
     let mut end = 0;
+    let mut pace = Pace::new();
     while end <= limit {
-        let Some(next) = supply.least(need::<P, M>(sheet, i, a, end), limit) else {
+        let wanted = need::<P, M>(sheet, i, a, end);
+        let Some(next) = supply.least(wanted, limit) else {
             return None;
         };
         if next <= end {
             return Some(end);
         }
-        end = next;
+        end = next.max(end_bound::<P, M>(sheet, i, a, end, wanted, limit, next, &mut pace));
     }
     None
 }
@@ -86,7 +92,8 @@ pub fn bound_for<P: Policy, M: Preemption, S: Supply>(
     requires task { i < length sheet.now.tasks }
     requires offset { a ≤ greatest_number }
     requires end { x ≤ greatest_number }
-    requires wanted { wanted ≡ need_of P.meaning M.cuts sheet.now i a x + rest_of M.cuts sheet.now i }
+    requires wanted { wanted ≡ need_of P.meaning M.cuts sheet.now i a x + rest_of M.cuts sheet.now
+        i }
     requires limit { limit ≤ 2000000000 }
     requires served { Serves M.cuts sheet.now }
     ensures { IsLeastTo (BoundMeets P.meaning M.cuts (S.sbf supply.now) sheet.now i a x) limit

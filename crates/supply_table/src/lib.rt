@@ -6,6 +6,7 @@ mod laws;
 mod promising;
 mod table;
 
+pub use checking::LONGEST_CYCLE;
 pub use laws::table_supplies;
 pub use promising::promise;
 pub use table::{Slot, Table, TableRefusal};

@@ -1,1 +1,2 @@
 pub mod RuleFacts
+pub mod PriorityFacts

@@ -2,6 +2,7 @@
 #![tactic(auto)]
 
 mod checking;
+mod copying;
 mod refusal;
 mod sheet;
 mod tasks;

@@ -21,6 +21,8 @@ pub enum Field {
     Task,
     Horizon,
     Times,
+    Cycle,
+    Slots,
     Name,
     Cost,
     Deadline,
@@ -48,6 +50,8 @@ pub enum SheetRefusal {
     Range { place: Place, field: Field },
     /// Numbers that do not rise as they should.
     Order { place: Place, field: Field },
+    /// Both a promise and a time table.
+    Mixed,
     /// Both a period and a curve.
     Both { task: u32 },
     /// The name of an earlier task.

@@ -1,14 +1,17 @@
 //! A valid sheet.
 ghost use Rattle.std.specs.Prelude.{◌≡◌, ◌<◌, ◌≤◌, ◌↔◌, length, IfOk, IsOk};
 ghost use Rattle.lists.specs.Limits.{greatest_number, most_tasks};
+ghost use Rattle.task_sheet.specs.Priorities.{with_fp, with_priority};
 ghost use Rattle.task_sheet.specs.Rules.{sheet_check_of};
 ghost use Rattle.task_sheet.specs.Sheets.{parts_of, task_at, IsValidSheet};
 
 use crate::checking::{check_supply, check_tasks};
+use crate::copying::{copy_supply, copy_tasks};
 use crate::refusal::{Field, Place, SheetRefusal};
 use crate::tasks::{PolicyKind, SupplySpec, Task};
 use lists::Items;
 use lists::limits::MOST_TASKS;
+use std::alloc::{AllocError, Global};
 use std::marker::Model;
 
 /// A valid sheet: a policy, a supply, and 1 to 256 tasks.
@@ -100,5 +103,30 @@ impl Sheet {
         ensures valid { IsValidSheet self.now }
     {
         &self.tasks.as_slice()[i as usize]
+    }
+
+    /// An equal sheet.
+    pub fn copy(&self, alloc: Global) -> Result<Sheet, AllocError>
+        ensures { IfOk result (λ sheet. sheet ≡ self.now) }
+    {
+        let supply = copy_supply(alloc, &self.supply)?;
+        let tasks = copy_tasks(alloc, self.tasks.as_slice())?;
+        Ok(Sheet::new(self.policy, supply, tasks))
+    }
+
+    /// Makes the policy that of fixed priorities.
+    pub fn set_fp(&mut self)
+        ensures { self.new ≡ with_fp self.old }
+    {
+        self.policy = PolicyKind::Fp;
+    }
+
+    /// Gives the task with this number another priority.
+    pub fn set_priority(&mut self, i: u32, p: u64)
+        requires task { i < length self.old.tasks }
+        requires priority { p ≤ greatest_number }
+        ensures { self.new ≡ with_priority self.old i p }
+    {
+        self.tasks.as_mut_slice()[i as usize].priority = p;
     }
 }

@@ -5,3 +5,5 @@
 mod reports;
 #[cfg(test)]
 mod sheets;
+#[cfg(test)]
+mod time_tables;

@@ -20,6 +20,14 @@ pub const TWO_TASKS: &str =
 pub const TWO_TASKS_CERT: &str =
     "poet-cert 1\ntasks 2\ntask 0 1 1 1\np 0 1\ntask 1 3 3 1\np 0 3\nend\n";
 
+/// What `report` prints of the two tasks, as a table.
+pub const TWO_TASKS_TABLE: &str =
+    "task                   cost   deadline      bound     window  points result use\na                         1          4          1          1       1 met    #####...............\nb                         2          6          3          3       1 met    ##########..........\ntasks 2 missed 0\n";
+
+/// The same as JSON.
+pub const TWO_TASKS_JSON: &str =
+    "{\"missed\":0,\"policy\":\"fp\",\"tasks\":[{\"bound\":1,\"cost\":1,\"deadline\":4,\"met\":true,\"name\":\"a\",\"points\":1,\"window\":1},{\"bound\":3,\"cost\":2,\"deadline\":6,\"met\":true,\"name\":\"b\",\"points\":1,\"window\":3}]}\n";
+
 pub const TWO_DEADLINES: &str =
     "policy = \"edf\"\n\n[[task]]\nname = \"a\"\ncost = 2\ndeadline = 4\nperiod = 4\n\n[[task]]\nname = \"b\"\ncost = 2\ndeadline = 6\nperiod = 6\n";
 
@@ -28,6 +36,13 @@ pub const TWO_DEADLINES_CERT: &str =
 
 pub const NEVER_PREEMPTED: &str =
     "policy = \"fp\"\n\n[[task]]\nname = \"a\"\ncost = 1\ndeadline = 4\npriority = 2\nperiod = 4\n\n[[task]]\nname = \"b\"\ncost = 2\ndeadline = 6\npriority = 1\nperiod = 6\npreemption = \"never\"\n";
+
+pub const NEVER_PREEMPTED_CERT: &str =
+    "poet-cert 1\ntasks 2\ntask 0 2 2 1\np 0 2\ntask 1 3 3 1\np 0 2\nend\n";
+
+/// The same with the terms of its points.
+pub const NEVER_PREEMPTED_TERMS: &str =
+    "poet-cert 2\ntasks 2\ntask 0 2 2 1\np 0 2 1 1 0 2\ntask 1 3 3 1\np 0 2 0 1 1 2\nend\n";
 
 pub const IN_ARRIVAL_ORDER: &str =
     "policy = \"fifo\"\n\n[[task]]\nname = \"a\"\ncost = 2\ndeadline = 4\nperiod = 4\n\n[[task]]\nname = \"b\"\ncost = 2\ndeadline = 6\nperiod = 6\n";
@@ -44,6 +59,23 @@ pub const EIGHT_TASKS: &str =
 
 pub const EIGHT_TASKS_CERT: &str =
     "poet-cert 1\ntasks 8\ntask 0 619 619 1\np 0 619\ntask 1 819 819 1\np 0 620\ntask 2 979 979 1\np 0 979\ntask 3 1699 1699 1\np 0 1600\ntask 4 3199 3199 1\np 0 3199\ntask 5 5899 5899 1\np 0 5899\ntask 6 13140 10440 1\np 0 9941\ntask 7 29820 29820 1\np 0 29820\nend\n";
+
+/// The same with the terms of its points.
+pub const EIGHT_TASKS_TERMS: &str =
+    "poet-cert 2\ntasks 8\ntask 0 619 619 1\np 0 619 499 120 0 619\ntask 1 819 819 1\np 0 620 499 1 120 620\ntask 2 979 979 1\np 0 979 499 160 320 979\ntask 3 1699 1699 1\np 0 1600 499 501 600 1600\ntask 4 3199 3199 1\np 0 3199 499 900 1800 3199\ntask 5 5899 5899 1\np 0 5899 499 1500 3900 5899\ntask 6 13140 10440 1\np 0 9941 0 3501 6440 9941\ntask 7 29820 29820 1\np 0 29820 0 8000 21820 29820\nend\n";
+
+pub const EIGHT_TASKS_ACCEPTED: &str =
+    "accepted\ntask motor bound 619 deadline 1000 met\ntask sensor bound 819 deadline 2000 met\ntask can_rx bound 979 deadline 5000 met\ntask control bound 1699 deadline 5000 met\ntask filter bound 3199 deadline 10000 met\ntask logger bound 5899 deadline 20000 met\ntask display bound 10440 deadline 50000 met\ntask self_test bound 29820 deadline 100000 met\n";
+
+pub const SLOW_AND_FAST: &str =
+    "policy = \"fp\"\n\n[[task]]\nname = \"slow\"\ncost = 3\ndeadline = 10\npriority = 1\nperiod = 10\n\n[[task]]\nname = \"fast\"\ncost = 1\ndeadline = 2\npriority = 1\nperiod = 4\n";
+
+/// No order serves both.
+pub const TWINS: &str =
+    "policy = \"fp\"\n\n[[task]]\nname = \"x\"\ncost = 1\ndeadline = 1\npriority = 1\nperiod = 4\n\n[[task]]\nname = \"y\"\ncost = 1\ndeadline = 1\npriority = 1\nperiod = 4\n";
+
+pub const LATER_TWINS: &str =
+    "policy = \"fp\"\n\n[[task]]\nname = \"x\"\ncost = 1\ndeadline = 2\npriority = 1\nperiod = 4\n\n[[task]]\nname = \"y\"\ncost = 1\ndeadline = 2\npriority = 1\nperiod = 4\n";
 
 pub const OVERLOAD: &str =
     "policy = \"fp\"\n\n[[task]]\nname = \"high\"\ncost = 3\ndeadline = 4\npriority = 2\nperiod = 4\n\n[[task]]\nname = \"low\"\ncost = 2\ndeadline = 4\npriority = 1\nperiod = 4\n";
@@ -80,4 +112,4 @@ pub const SEGMENTED: &str =
     "policy = \"fp\"\n\n[[task]]\nname = \"a\"\ncost = 1000001\ndeadline = 10000000\npriority = 1\nperiod = 10000000\npreemption = { floating = 1 }\n";
 
 pub const USAGE: &str =
-    "usage: poet check SHEET CERT [deadlines] | analyse SHEET HORIZON | simulate SHEET dense N | simulate SHEET seed S N | audit SHEET RUN | report SHEET CERT text|json | exercise S N | infer FILE HORIZON\n";
+    "usage: poet check SHEET CERT [deadlines] | analyse SHEET HORIZON | simulate SHEET dense N | simulate SHEET seed S N | audit SHEET RUN | report SHEET CERT text|json | exercise S N | upgrade SHEET CERT | assign SHEET HORIZON | promise SHEET | infer FILE HORIZON\n";

@@ -202,7 +202,7 @@ const FIRST_FAILED_CONDITIONS: [Case; 11] = [
         sheet: EIGHT_TASKS,
         other: EIGHT_TASKS_CERT,
         status: 0,
-        out: "accepted\ntask motor bound 619 deadline 1000 met\ntask sensor bound 819 deadline 2000 met\ntask can_rx bound 979 deadline 5000 met\ntask control bound 1699 deadline 5000 met\ntask filter bound 3199 deadline 10000 met\ntask logger bound 5899 deadline 20000 met\ntask display bound 10440 deadline 50000 met\ntask self_test bound 29820 deadline 100000 met\n",
+        out: EIGHT_TASKS_ACCEPTED,
         err: "",
     },
     Case {
@@ -210,7 +210,7 @@ const FIRST_FAILED_CONDITIONS: [Case; 11] = [
         sheet: EIGHT_TASKS,
         other: EIGHT_TASKS_CERT,
         status: 0,
-        out: "accepted\ntask motor bound 619 deadline 1000 met\ntask sensor bound 819 deadline 2000 met\ntask can_rx bound 979 deadline 5000 met\ntask control bound 1699 deadline 5000 met\ntask filter bound 3199 deadline 10000 met\ntask logger bound 5899 deadline 20000 met\ntask display bound 10440 deadline 50000 met\ntask self_test bound 29820 deadline 100000 met\n",
+        out: EIGHT_TASKS_ACCEPTED,
         err: "",
     },
 ];

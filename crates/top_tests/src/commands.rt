@@ -203,7 +203,7 @@ const REPORTS: [Case; 8] = [
         sheet: TWO_TASKS,
         other: TWO_TASKS_CERT,
         status: 0,
-        out: "task                   cost   deadline      bound     window  points result use\na                         1          4          1          1       1 met    #####...............\nb                         2          6          3          3       1 met    ##########..........\ntasks 2 missed 0\n",
+        out: TWO_TASKS_TABLE,
         err: "",
     },
     Case {
@@ -211,7 +211,7 @@ const REPORTS: [Case; 8] = [
         sheet: TWO_TASKS,
         other: TWO_TASKS_CERT,
         status: 0,
-        out: "{\"missed\":0,\"policy\":\"fp\",\"tasks\":[{\"bound\":1,\"cost\":1,\"deadline\":4,\"met\":true,\"name\":\"a\",\"points\":1,\"window\":1},{\"bound\":3,\"cost\":2,\"deadline\":6,\"met\":true,\"name\":\"b\",\"points\":1,\"window\":3}]}\n",
+        out: TWO_TASKS_JSON,
         err: "",
     },
     Case {

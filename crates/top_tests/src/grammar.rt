@@ -6,7 +6,9 @@ use std::process::Abort;
 use std::test::Fail;
 use top_cases::files::{ONE_TASK, USAGE};
 
-const UNREAD: [&str; 24] = [
+const UNREAD: [&str; 31] = [
+    "promise",
+    "promise s unit",
     "check",
     "check s",
     "check x",
@@ -26,6 +28,11 @@ const UNREAD: [&str; 24] = [
     "exercise 7 65",
     "exercise 7 0",
     "exercise -1 1",
+    "upgrade s",
+    "upgrade s c deadlines",
+    "assign s",
+    "assign s 0",
+    "assign s 1000000001",
     "infer s",
     "infer s 0",
     "infer s 06",

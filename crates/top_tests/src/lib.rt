@@ -5,6 +5,8 @@
 #[cfg(test)]
 mod analyses;
 #[cfg(test)]
+mod assignments;
+#[cfg(test)]
 mod cases;
 #[cfg(test)]
 mod checks;
@@ -17,6 +19,12 @@ mod grammar;
 #[cfg(test)]
 mod jitters;
 #[cfg(test)]
+mod pieces;
+#[cfg(test)]
 mod points;
+#[cfg(test)]
+mod tables;
+#[cfg(test)]
+mod upgrades;
 #[cfg(test)]
 mod whole;

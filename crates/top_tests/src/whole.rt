@@ -1,7 +1,7 @@
 //! A generated sheet, from its making to its run, call by call.
 ghost use Rattle.std.specs.Prelude.{◌<◌, ◌^◌, length};
 
-use cert_check::{Verdict, check_cert};
+use cert_check::{Checker, Verdict};
 use certificate::write_cert;
 use exercise::make_sheet;
 use lists::Items;
@@ -32,8 +32,9 @@ fn bounds_and_run(alloc: Global) -> Result<(Items<u64>, Run), StageError> {
     let sheet = make_sheet(alloc, 7, 64)?;
     let cert = analyse::<Edf, PerTask, Sheet>(alloc, &sheet, &sheet, 1_000_000)?;
     let text = write_cert(alloc, &cert)?;
-    let verdict = check_cert::<Edf, PerTask, Sheet>(alloc, &sheet, &sheet, false, &text)?;
-    let bounds = match verdict {
+    let mut checker = Checker::<Edf, PerTask, Sheet>::new(alloc, &sheet, &sheet, false)?;
+    checker.feed(&text);
+    let bounds = match checker.finish() {
         Verdict::Accepted(bounds) => bounds,
         _ => Items::new(Vec::new(alloc)),
     };

@@ -4,13 +4,13 @@ ghost use Rattle.preemption.specs.CutLaws.{Serves};
 ghost use Rattle.preemption.specs.Kinds.{full_meaning};
 
 use crate::ByNumber;
-use cert_check::{Verdict, check_cert};
+use cert_check::{Checker, Verdict};
 use curve::Prefix;
 use lists::{Items, Text};
 use meter::Meter;
 use policy::Policy;
-use preemption::{FullCut, PerTask};
-use std::alloc::Global;
+use preemption::{FullCut, PerTask, Preemption};
+use std::alloc::{AllocError, Global};
 use std::test::Fail;
 use supply::Unit;
 use task_sheet::{Cut, PolicyKind, Sheet, SupplySpec, Task};
@@ -55,6 +55,19 @@ fn is_full(sheet: &Sheet) -> bool
     true
 }
 
+/// The verdict on a text, with deadlines.
+fn verdict_on<M: Preemption>(
+    alloc: Global,
+    sheet: &Sheet,
+    text: &[u8],
+) -> Result<Verdict, AllocError>
+    requires { Serves M.cuts sheet.now }
+{
+    let mut checker = Checker::<ByNumber, M, Unit>::new(alloc, sheet, &Unit, true)?;
+    checker.feed(text);
+    Ok(checker.finish())
+}
+
 #[test]
 fn accepted(rt: HostRuntime) -> Result<(), Fail> {
     let alloc = rt.alloc();
@@ -62,12 +75,12 @@ fn accepted(rt: HostRuntime) -> Result<(), Fail> {
     let wanted = Verdict::Accepted(Items::new(vec![in alloc; 1, 3]?));
     assert_eq!(rt; ByNumber::NAME, "by-number");
 
-    let by_task = check_cert::<ByNumber, PerTask, Unit>(alloc, &sheet, &Unit, true, CERT)?;
+    let by_task = verdict_on::<PerTask>(alloc, &sheet, CERT)?;
     assert_eq!(rt; by_task, wanted);
 
     assert!(rt; is_full(&sheet));
     if is_full(&sheet) {
-        let full = check_cert::<ByNumber, FullCut, Unit>(alloc, &sheet, &Unit, true, CERT)?;
+        let full = verdict_on::<FullCut>(alloc, &sheet, CERT)?;
         assert_eq!(rt; full, wanted);
     }
     Ok(())

@@ -34,7 +34,8 @@ pub fn first_entry(jobs: &BTreeMap<Rank, u32>) -> Option<u32>
 impl Queue {
     /// With no job.
     pub fn new(alloc: Global) -> Queue
-        ensures { (p : PolicyMeaning) (sheet : SheetParts) (jobs : List JobValue) (test : ℕ → Bool) →
+        ensures { (p : PolicyMeaning) (sheet : SheetParts) (jobs : List JobValue)
+            (test : ℕ → Bool) →
             ((k : ℕ) → k < length jobs → test k ≡ false) → IsQueue p sheet jobs test result.jobs }
     {
         Queue {
@@ -74,7 +75,8 @@ impl Queue {
 
     /// The first job: no other comes before it by key, task, arrival and number.
     pub fn first(&self) -> Option<u32>
-        ensures { (p : PolicyMeaning) (sheet : SheetParts) (jobs : List JobValue) (test : ℕ → Bool) →
+        ensures { (p : PolicyMeaning) (sheet : SheetParts) (jobs : List JobValue)
+            (test : ℕ → Bool) →
             IsQueue p sheet jobs test self.now.jobs → IsMostUrgent p sheet jobs test result }
     {
         first_entry(&self.jobs)

@@ -1,5 +1,5 @@
 -- The needed distances decide whether arrivals keep to a curve.
-use Rattle.std.proofs.Common.{◌≡◌, ℕ, zero, suc, ◌+◌, ◌-◌, ◌<◌, ◌≤◌, ◌⊎◌, List, [], ◌∷◌, ◌++◌, length, get_or, refl, sym, ◌∙◌, ap, subst, inl, inr, arith}
+use Rattle.std.proofs.Common.{◌≡◌, ℕ, zero, suc, ◌+◌, ◌-◌, ◌<◌, ◌≤◌, List, [], ◌∷◌, ◌++◌, length, get_or, refl, sym, ◌∙◌, ap, subst, inl, inr, arith}
 use Rattle.std.specs.List.Sorted.{IsNonDecreasing}
 use Rattle.std.proofs.lemmas.Bool.{cases_lt}
 use Rattle.std.proofs.lemmas.List.{length-append, get_or_append_left, get_or-append_right}
@@ -8,7 +8,7 @@ use Rattle.curve.specs.CurveValue.{Curve}
 use Rattle.curve.specs.Curves.{alpha_of}
 use Rattle.windows.specs.declared.distances.Distance.{Distance}
 use Rattle.windows.specs.Crowds.{IsCrowdedPair}
-use Rattle.windows.specs.Distances.{no_distance, distance_at, KeepsSpan, Follows, IsListed, AreNeededBelow, AreNeeded, AreNeededOf, NeededDecide}
+use Rattle.windows.specs.Distances.{no_distance, distance_at, KeepsSpan, Follows, IsListed, AreNeededBelow, AreNeeded, AreNeededOf, NeededDecide, DoKeep}
 
 module _ (spans : List ℕ) (needed : List Distance) (xs : List ℕ) (j : ℕ) (are : AreNeeded spans needed) (b : j < length spans)
     (free : (k m : ℕ) → k < j → m ≤ k → KeepsSpan spans xs k m) (look : (i : ℕ) → i < length needed →
@@ -106,6 +106,16 @@ module _ (c : Curve) (xs : List ℕ) (up : IsNonDecreasing xs) (early : (i : ℕ
     close_pair c xs up early needed of j (distance_at needed n).apart b near
         (omega (arith, close, of.decided.each n listed)),
   )
+
+module _ (c : Curve) (xs : List ℕ) (up : IsNonDecreasing xs) (early : (i : ℕ) → i < length xs → get_or xs i 0 ≤ greatest_number)
+    (needed : List Distance) (of : AreNeededOf c (length xs) needed) (kept : (i : ℕ) → i < length needed →
+    DoKeep xs (distance_at needed i) (distance_at needed i).apart (length xs)) where
+  -- where all arrivals keep the needed distances, no pair below number n is crowded
+  pub none_below : (n j i : ℕ) → j < n → j < length xs → IsCrowdedPair c xs j i → ⊥
+  none_below zero j i l b pair = absurd (omega arith)
+  none_below (suc n) j i l b pair =
+      none_looked c xs up early needed of j b (λ k m below other. none_below n k m (omega arith) (omega arith) other)
+      (λ m listed _ near. kept m listed j near b) i pair
 
 -- one distance more, which follows from a shorter one
 pub needed_same : (spans : List ℕ) (needed : List Distance) (m : ℕ) → AreNeededBelow spans m needed → (p : ℕ) → Follows spans m p →

@@ -8,3 +8,5 @@ pub mod CrowdFacts
 pub mod TickCounts
 pub mod DistanceFacts
 pub mod TimeFacts
+pub mod ListedFacts
+pub mod KeepFacts

@@ -1,10 +1,9 @@
 -- The first short tick, from the counts of supplied ticks.
 use Rattle.std.proofs.Common.{◌≡◌, ℕ, zero, suc, ◌+◌, ◌-◌, ◌<◌, ◌≤◌, Bool, true, false, cond, List, [], ◌∷◌, ◌++◌, length, get_or, ap, inl, inr}
-use Rattle.std.proofs.Common.{arith, add-zero, add-suc, add-one}
+use Rattle.std.proofs.Common.{arith, add-one}
 use Rattle.std.proofs.lemmas.Bool.{cases_lt, both_ways, false_from_ne_true, true_from_ne_false}
 use Rattle.std.proofs.lemmas.List.{length-append, get_or_append_left, get_or-append_right}
 use Rattle.run_model.specs.declared.run.Run.{Run}
-use Rattle.run_model.specs.declared.run.Tick.{Tick}
 use Rattle.run_model.specs.Runs.{tick_at, is_on, ticks_in}
 use Rattle.run_model.proofs.ServiceFacts.{ticks_in_none, ticks_in_more, ticks_in_split}
 use Rattle.schedule_laws.specs.Tests.{is_short}

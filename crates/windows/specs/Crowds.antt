@@ -1,6 +1,7 @@
 -- The first crowded job of a run.
-use Rattle.std.specs.Prelude.{◌≡◌, ℕ, ◌+◌, ◌-◌, ◌==◌, ◌<◌, ◌≤◌, ◌⊎◌, ◌&&◌, ◌||◌, List, Bool, true, cond, length, map, filter, nat_le, nat_lt}
-use Rattle.std.specs.Prelude.{slice_index, Option, Some, None}
+use Rattle.std.specs.Prelude.{◌≡◌, ℕ, ◌+◌, ◌-◌, ◌==◌, ◌<◌, ◌≤◌, ◌⊎◌, ◌&&◌, ◌||◌, List, [], Bool, true, cond, length, map, filter, take}
+use Rattle.std.specs.Prelude.{nat_le, nat_lt, slice_index, slice_index_or, Option, Some, None}
+use Rattle.std.specs.Global.{Vec}
 use Rattle.std.specs.List.Sorted.{IsNonDecreasing}
 use Rattle.lists.specs.Searches.{IsLeast}
 use Rattle.curve.specs.CurveValue.{Curve}
@@ -69,3 +70,19 @@ pub record IsCrowdedPair (curve : Curve) (arrivals : List ℕ) (j i : ℕ) : Typ
 abbrev pub IsFirstCrowdedTick : Curve → List ℕ → Option ℕ → Type 0
 IsFirstCrowdedTick curve arrivals None = (b : ℕ) → IsCrowdedTick curve arrivals b → ⊥
 IsFirstCrowdedTick curve arrivals (Some b) = IsLeast (IsCrowdedTick curve arrivals) b × ((i : ℕ) × (i < length arrivals) × (slice_index arrivals i ≡ b))
+
+-- the arrivals of task o among the first n jobs, in the order of the jobs
+abbrev pub first_arrivals : Run → ℕ → ℕ → List ℕ
+first_arrivals run n o = map (λ j. j.arrival) (filter (λ j. j.task == o) (take n run.jobs))
+
+-- the lists have nothing
+abbrev pub AreEmpty : List (Vec ℕ) → Type 0
+AreEmpty lists = (o : ℕ) (d : Vec ℕ) → o < length lists → (slice_index_or lists o d).items ≡ []
+
+-- the lists have the arrivals of each task among the first n jobs
+abbrev pub AreListed : Run → ℕ → List (Vec ℕ) → Type 0
+AreListed run n lists = (o : ℕ) (d : Vec ℕ) → o < length lists → (slice_index_or lists o d).items ≡ first_arrivals run n o
+
+-- the first n lists have the arrivals of each task in ascending order
+abbrev pub AreSortedTo : Run → ℕ → List (Vec ℕ) → Type 0
+AreSortedTo run n lists = (o : ℕ) (d : Vec ℕ) → o < n → o < length lists → AreArrivals run o (slice_index_or lists o d).items

@@ -51,3 +51,11 @@ NeededDecide =
     ((k m : ℕ) → k < j → m ≤ k → KeepsSpan spans arrivals k m) →
     ((i : ℕ) → i < length needed → (distance_at needed i).apart ≤ j → KeepsSpan spans arrivals j (distance_at needed i).apart) →
     (m : ℕ) → m ≤ j → KeepsSpan spans arrivals j m
+
+-- arrival number j lies a window of the span or more behind the one that is so many numbers before it
+abbrev pub KeepsDistance : List ℕ → Distance → ℕ → Type 0
+KeepsDistance arrivals d j = d.span + slice_index arrivals (j - d.apart) ≤ slice_index arrivals j + 1
+
+-- the same of each number from one up to another
+abbrev pub DoKeep : List ℕ → Distance → ℕ → ℕ → Type 0
+DoKeep arrivals d first until = (j : ℕ) → first ≤ j → j < until → KeepsDistance arrivals d j

@@ -5,10 +5,11 @@ ghost use Rattle.lists.specs.Limits.{most_jobs, greatest_number};
 ghost use Rattle.curve.specs.Validity.{IsCurve};
 ghost use Rattle.lists.specs.Searches.{IsFirstBelow};
 ghost use Rattle.schedule_laws.specs.Tests.{AreOf, AreEarly};
-ghost use Rattle.windows.specs.Crowds.{IsFirstCrowded, IsFirstJob, IsCrowdedOf, ArrivesAt, AreArrivals, task_arrivals, earlier_of, comes_first as comes_first_by, IsCrowdedPair, IsFirstCrowdedTick};
+ghost use Rattle.windows.specs.Crowds.{IsFirstCrowded, IsFirstJob, IsCrowdedOf, ArrivesAt, AreArrivals, AreEmpty, AreListed, AreSortedTo, earlier_of, comes_first as comes_first_by, IsCrowdedPair, IsFirstCrowdedTick};
 ghost use Rattle.windows.specs.Distances.{AreNeededOf};
 
 use crate::distances::{Distance, needed_distances};
+use crate::keeping::keep_all;
 use curve::Prefix;
 use run_model::Run;
 use std::alloc::{AllocError, Global};
@@ -23,28 +24,30 @@ pub fn first_crowded(alloc: Global, sheet: &Sheet, run: &Run) -> Result<Option<u
     requires arrivals { AreEarly run.now }
     ensures { IfOk result (IsFirstCrowded sheet.now run.now) }
 {
+    let arrivals = arrivals_by_task(alloc, sheet, run)?;
     let mut first = None;
     for o in 0..sheet.len() {
-        let other = first_crowded_of(alloc, sheet, run, o)?;
+        let other = first_crowded_of(alloc, sheet, run, &arrivals[o as usize], o)?;
         first = earlier(run, first, other);
     }
     Ok(first)
 }
 
-/// The first crowded job of task `o`.
+/// The first crowded job of task `o`, whose arrivals are these.
 fn first_crowded_of(
     alloc: Global,
     sheet: &Sheet,
     run: &Run,
+    arrivals: &[u64],
     o: u32,
 ) -> Result<Option<u32>, AllocError>
     requires few { length run.now.jobs ≤ most_jobs }
     requires task { o < length sheet.now.tasks }
-    requires arrivals { AreEarly run.now }
+    requires early { AreEarly run.now }
+    requires arrivals { AreArrivals run.now o arrivals.now }
     ensures { IfOk result (IsFirstJob (IsCrowdedOf sheet.now run.now o) run.now) }
 {
-    let arrivals = sorted_arrivals(alloc, run, o)?;
-    match first_crowded_tick(alloc, &sheet.task(o).curve, &arrivals)? {
+    match first_crowded_tick(alloc, &sheet.task(o).curve, arrivals)? {
         Some(tick) => Ok(first_at(run, o, tick)),
         None => Ok(None),
     }
@@ -95,25 +98,48 @@ fn first_at(run: &Run, o: u32, tick: u64) -> Option<u32>
     None
 }
 
-/// The arrivals of the jobs of task `o`.
-fn listed_arrivals(alloc: Global, run: &Run, o: u32) -> Result<Vec<u64>, AllocError>
-    ensures { IfOk result (λ v. v.items ≡ task_arrivals run.now o) }
+/// So many empty lists.
+#[tactic(auto, using(crate::proofs::ListedFacts::empty_more))]
+fn empty_lists(alloc: Global, count: usize) -> Result<Vec<Vec<u64>>, AllocError>
+    ensures count { IfOk result (λ v. length v.items ≡ count) }
+    ensures empty { IfOk result (λ v. AreEmpty v.items) }
 {
-    run.jobs
-        .as_slice()
-        .iter()
-        .filter(|job| job.task == o)
-        .map(|job| job.arrival)
-        .collect(alloc)
+    let mut lists = Vec::with_capacity(alloc, count)?;
+    for _list in 0..count {
+        lists.push(Vec::new(alloc))?;
+    }
+    Ok(lists)
 }
 
-/// The same in ascending order.
-fn sorted_arrivals(alloc: Global, run: &Run, o: u32) -> Result<Vec<u64>, AllocError>
-    ensures { IfOk result (λ v. AreArrivals run.now o v.items) }
+/// The arrivals of the jobs of each task, in the order of the jobs.
+#[tactic(auto, using(crate::proofs::ListedFacts::listed_none, crate::proofs::ListedFacts::listed_more))]
+fn listed_arrivals(alloc: Global, sheet: &Sheet, run: &Run) -> Result<Vec<Vec<u64>>, AllocError>
+    requires few { length run.now.jobs ≤ most_jobs }
+    requires tasks { AreOf sheet.now run.now }
+    ensures count { IfOk result (λ v. length v.items ≡ length sheet.now.tasks) }
+    ensures listed { IfOk result (λ v. AreListed run.now (length run.now.jobs) v.items) }
 {
-    let mut arrivals = listed_arrivals(alloc, run, o)?;
-    arrivals.sort()?;
-    Ok(arrivals)
+    let mut lists = empty_lists(alloc, sheet.len() as usize)?;
+    for k in 0..run.jobs.len() {
+        let job = &run.jobs.as_slice()[k];
+        lists[job.task as usize].push(job.arrival)?;
+    }
+    Ok(lists)
+}
+
+/// The arrivals of the jobs of each task, in ascending order.
+#[tactic(auto, using(crate::proofs::ListedFacts::half_none))]
+fn arrivals_by_task(alloc: Global, sheet: &Sheet, run: &Run) -> Result<Vec<Vec<u64>>, AllocError>
+    requires few { length run.now.jobs ≤ most_jobs }
+    requires tasks { AreOf sheet.now run.now }
+    ensures count { IfOk result (λ v. length v.items ≡ length sheet.now.tasks) }
+    ensures sorted { IfOk result (λ v. AreSortedTo run.now (length v.items) v.items) }
+{
+    let mut lists = listed_arrivals(alloc, sheet, run)?;
+    for o in 0..lists.len() {
+        lists[o].sort_unstable();
+    }
+    Ok(lists)
 }
 
 /// The first of the arrivals with whose tick more have arrived than the curve says.
@@ -129,6 +155,9 @@ fn first_crowded_tick(
     ensures { IfOk result (IsFirstCrowdedTick curve.now arrivals.now) }
 {
     let needed = needed_distances(alloc, curve, arrivals.len())?;
+    if keep_all(curve, &needed, arrivals) {
+        return Ok(None);
+    }
     for j in 0..arrivals.len() {
         if has_crowded_pair(curve, &needed, arrivals, j) {
             return Ok(Some(arrivals[j]));

@@ -6,6 +6,7 @@
 
 mod crowds;
 mod distances;
+mod keeping;
 mod room;
 mod spans;
 mod supplied;

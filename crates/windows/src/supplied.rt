@@ -87,7 +87,8 @@ pub fn first_short(alloc: Global, sheet: &Sheet, run: &Run) -> Result<Option<u64
 {
     let needed = needed_times(alloc, sheet)?;
     let mut supplied = 0;
-    let mut counts = vec![in alloc; supplied]?;
+    let mut counts = Vec::with_capacity(alloc, run.ticks.len() + 1)?;
+    counts.push(supplied)?;
     for t in 0..run.ticks.len() as u64 {
         if is_short(sheet, &needed, run, &counts, t) {
             return Ok(Some(t));

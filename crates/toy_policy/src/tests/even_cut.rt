@@ -12,10 +12,10 @@
 //!   2 + 5 + 4 = 11, so L = 11. The need is 3 + 2 + 5, so x = 10, and with the rest of 1 R = 11.
 ghost use Rattle.preemption.specs.CutLaws.{Serves};
 
-use super::make_task;
+use super::{make_task, verdict_on};
 use crate::{ByNumber, EvenCut};
 use abstract_rta::{bound, points_bound};
-use cert_check::{Verdict, check_cert};
+use cert_check::Verdict;
 use conditions::{Cond, Failed};
 use lists::Items;
 use preemption::{PerTask, Preemption};
@@ -42,7 +42,7 @@ fn verdict<M: Preemption>(alloc: Global, sheet: &Sheet, lines: &str) -> Result<V
     requires { Serves M.cuts sheet.now }
 {
     let text = format!(in alloc; "poet-cert 1\ntasks 3\n{lines}end\n")?;
-    Ok(check_cert::<ByNumber, M, Unit>(alloc, sheet, &Unit, true, text.as_bytes())?)
+    Ok(verdict_on::<M>(alloc, sheet, text.as_bytes())?)
 }
 
 /// The longest segment and the threshold of task `i`.

@@ -10,7 +10,7 @@ abbrev arrival_by : ℕ → ℕ → ℕ → Arrival
 arrival_by tick release job = record { tick = tick; release = release; job = job }
 
 pub loop-k-init : goal.loop-k-init
-loop-k-init c = arrivals_none c.args.run.now c.new-arrivals.result.items c.new-arrivals.ensures.items
+loop-k-init c = arrivals_none c.args.run.now c.in_ok-arrivals.arrivals.items c.in_ok-arrivals.ensures.items
 
 pub loop-k-preserved : goal.loop-k-preserved
 loop-k-preserved c =

@@ -1,5 +1,4 @@
 use Rattle.std.proofs.Common.{◌≡◌, length, subst, arith}
-use Rattle.task_sheet.specs.declared.tasks.Job.{Job}
 use Rattle.run_model.specs.Runs.{job_at}
 use Rattle.audit.specs.Pending.{is_waiting, IsReady}
 use Rattle.audit.proofs.ReadFacts.{job_read}

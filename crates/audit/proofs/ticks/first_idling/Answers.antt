@@ -6,4 +6,4 @@ use Rattle.audit.proofs.ticks.first_idling.Goals as goal
 
 pub returns : goal.returns
 unfolding idle_in
-returns g c = placed rule.Idle (is_idle_broken c.args.run.now) c.args.run.now _ _ c.in_ok-place.ensures c.fault_of.ensures
+returns c = placed rule.Idle (is_idle_broken c.args.run.now) c.args.run.now _ _ c.in_ok-place.ensures c.fault_of.ensures

@@ -1,4 +1,4 @@
-use Rattle.std.proofs.Common.{rules, ◌≡◌, ◌++◌, ◌∙◌, ap, sym, take, codes, append_assoc, List, ℕ}
+use Rattle.std.proofs.Common.{◌≡◌, ◌++◌, ◌∙◌, ap, take, codes, append_assoc, List, ℕ}
 use Rattle.poet_cli.specs.Refusals.{place_text, line_at}
 use Rattle.poet_cli.proofs.WritingFacts.{wrote_as}
 use Rattle.poet_cli.proofs.telling.write_at.Goals as goal

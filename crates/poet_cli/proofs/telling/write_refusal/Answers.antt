@@ -16,3 +16,7 @@ returns-in-Jobs g c = wrote_as _ _ _ _ _ _ _ (search rules) c.write_all-in-Jobs.
 pub returns-in-Segments : goal.returns-in-Segments
 unfolding line_of
 returns-in-Segments g c = wrote_as _ _ _ _ _ _ _ (search rules) c.write_all-in-Segments.ensures
+
+pub returns-in-LongUpgrade : goal.returns-in-LongUpgrade
+unfolding line_of
+returns-in-LongUpgrade g c = wrote_as _ _ _ _ _ _ _ (search rules) c.write_all-in-LongUpgrade.ensures

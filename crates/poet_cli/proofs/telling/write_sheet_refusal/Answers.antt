@@ -1,4 +1,4 @@
-use Rattle.std.proofs.Common.{rules, codes}
+use Rattle.std.proofs.Common.{rules}
 use Rattle.poet_cli.specs.Refusals.{field_word, line_at}
 use Rattle.poet_cli.proofs.WritingFacts.{wrote_as}
 use Rattle.poet_cli.proofs.telling.write_sheet_refusal.Goals as goal

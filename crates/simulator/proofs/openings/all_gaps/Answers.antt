@@ -1,4 +1,4 @@
-use Rattle.std.proofs.Common.{◌≡◌, arith, rules}
+use Rattle.std.proofs.Common.{arith, rules}
 use Rattle.simulator.proofs.ShutFacts.{gaps_pushed}
 use Rattle.simulator.proofs.openings.all_gaps.Goals as goal
 

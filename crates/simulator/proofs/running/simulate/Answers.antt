@@ -36,7 +36,7 @@ loop-t-init g c =
       moment = c.in_ok-simulation.ensures.moment;
       kept = c.in_ok-simulation.ensures.kept;
       openings = openings_start sheet (run_of c.in_ok-simulation.simulation) 0 c.len.result c.in_ok-openings.openings
-          c.len.ensures.len made.ticks made.first gaps;
+          c.len.ensures.len made.ticks made.firsts made.first gaps;
     }
 
 pub loop-t-preserved : goal.loop-t-preserved

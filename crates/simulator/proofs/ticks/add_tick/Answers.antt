@@ -15,8 +15,8 @@ use Rattle.simulator.proofs.WindowFacts.{count_low, last_count}
 use Rattle.simulator.proofs.TickFacts.{with_tick_is, ticked, kept_then}
 use Rattle.simulator.proofs.ticks.add_tick.Goals as goal
 
-pub off_allowed-may-requires : goal.off_allowed-may-requires
-off_allowed-may-requires g c =
+pub off_allowed_by-may-requires-clause-counts : goal.off_allowed_by-may-requires-clause-counts
+off_allowed_by-may-requires-clause-counts g c =
     let w : World = world_by g.P.Policy.meaning g.M.Preemption.cuts c.args.sheet.now c.args.mode in
     let valid = c.len-valid.ensures.valid in
     let laws =
@@ -53,13 +53,13 @@ returns-clause-moment g c =
     let w : World = world_by g.P.Policy.meaning g.M.Preemption.cuts c.args.sheet.now c.args.mode in
     let m = c.args.simulation.now in
     let rest = c.advance.ensures.rest in
-    let allowed : IsTrue c.off_allowed-may.result ↔ MayBeOff (sbf_of c.args.sheet.now.supply) m.counts.items c.args.t =
-    subst (λ (l : List ℕ). IsTrue c.off_allowed-may.result ↔ MayBeOff (sbf_of c.args.sheet.now.supply) l c.args.t)
-    c.deref.ensures.value c.off_allowed-may.ensures in
-    let may : c.off_allowed-may.result ≡ may_be_off w.sbf (run_of m) c.args.t =
-    off_same w.sbf (run_of m) m.counts.items c.args.t c.requires.kept.jobs.now c.requires.kept.counts c.off_allowed-may.result
+    let allowed : IsTrue c.off_allowed_by-may.result ↔ MayBeOff (sbf_of c.args.sheet.now.supply) m.counts.items c.args.t =
+    subst (λ (l : List ℕ). IsTrue c.off_allowed_by-may.result ↔ MayBeOff (sbf_of c.args.sheet.now.supply) l c.args.t)
+    c.deref.ensures.value c.off_allowed_by-may.ensures in
+    let may : c.off_allowed_by-may.result ≡ may_be_off w.sbf (run_of m) c.args.t =
+    off_same w.sbf (run_of m) m.counts.items c.args.t c.requires.kept.jobs.now c.requires.kept.counts c.off_allowed_by-may.result
     allowed.0 allowed.1 in
-    ticked w c.args.t (moment_of m) c.off_allowed-may.result c.draw_off-off.result c.pick-tick.result _
+    ticked w c.args.t (moment_of m) c.off_allowed_by-may.result c.draw_off-off.result c.pick-tick.result _
     c.advance.new.simulation.words may c.draw_off-off.ensures.off (c.pick-tick.ensures.tick w c.args.t c.requires.kept)
     (with_tick_is (run_of m) c.advance.new.simulation.jobs.items c.push-2.new.self.items c.pick-tick.result
     (ap (λ (v : Vec Job). v.items) rest.jobs)

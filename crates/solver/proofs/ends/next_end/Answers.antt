@@ -1,11 +1,42 @@
 use Rattle.std.proofs.Common.{arith}
 use Rattle.solver.proofs.Jumps.{end_here}
+use Rattle.solver.proofs.LoadFacts.{ends_skipped}
 use Rattle.solver.proofs.ends.next_end.Goals as goal
 
 pub returns-then-next-end-clause-least : goal.returns-then-next-end-clause-least
 returns-then-next-end-clause-least g c =
-    let need = rw c.loop-end.invariant.at at c.need.ensures.exact in (
+    let need = rw c.loop-end.invariant.at at c.need-wanted.ensures.exact in (
       omega arith,
       end_here _ _ _ _ c.laws.ensures _ _ _ c.in-Some.next (omega arith)
           (omega (arith, need, c.in-Some.ensures.1.holds)) c.loop-end.invariant.before,
     )
+
+pub end_bound-requires-clause-wanted : goal.end_bound-requires-clause-wanted
+end_bound-requires-clause-wanted g c = rw c.loop-end.invariant.at at c.need-wanted.ensures.exact
+
+pub end_bound-requires-clause-few : goal.end_bound-requires-clause-few
+end_bound-requires-clause-few g c =
+    omega (arith, c.in-Some.ensures.1.holds, c.laws.ensures.within c.in-Some.next, c.in-Some.ensures.0, c.requires.limit)
+
+pub returns-then-end-limit-clause-least : goal.returns-then-end-limit-clause-least
+returns-then-end-limit-clause-least g c =
+    let laws = c.laws.ensures in
+    let need = rw c.loop-end.invariant.at at c.need-wanted.ensures.exact in
+    λ k le. ends_skipped _ _ _ _ _ (g.S.Supply.sbf c.args.supply.now) c.loop-end.end c.in-Some.next c.args.limit
+    c.end_bound.result k laws.within c.loop-end.invariant.before
+    (λ j n h. laws.need_grows c.args.i c.args.a j n c.requires.task h)
+    (λ d h. c.in-Some.ensures.1.least d (omega (arith, h, need)))
+    c.end_bound.ensures.within c.end_bound.ensures.below (omega (arith, le, c.max-end.ensures))
+
+pub loop-end-preserved : goal.loop-end-preserved
+loop-end-preserved g c =
+    let laws = c.laws.ensures in
+    let need = rw c.loop-end.invariant.at at c.need-wanted.ensures.exact in
+    record {
+      at = rw c.loop-end.invariant.at at c.move_to.ensures;
+      before = λ k lt. ends_skipped _ _ _ _ _ (g.S.Supply.sbf c.args.supply.now) c.loop-end.end c.in-Some.next c.args.limit
+          c.end_bound.result k laws.within c.loop-end.invariant.before
+          (λ j n h. laws.need_grows c.args.i c.args.a j n c.requires.task h)
+          (λ d h. c.in-Some.ensures.1.least d (omega (arith, h, need)))
+          c.end_bound.ensures.within c.end_bound.ensures.below (omega (arith, lt, c.max-end.ensures));
+    }

@@ -1,8 +1,13 @@
 use Rattle.std.proofs.Common.{◌≡◌, ℕ, subst, inl, inr, arith}
-use Rattle.std.proofs.lemmas.Bool.{cases_lt}
+use Rattle.std.proofs.lemmas.Bool.{cases_lt, OnTrue_at}
 use Rattle.windows.specs.Crowds.{IsCrowdedPair}
 use Rattle.windows.proofs.PairFacts.{tick_none, tick_some}
 use Rattle.windows.proofs.crowds.first_crowded_tick.Goals as goal
+
+pub returns-then-keep_all : goal.returns-then-keep_all
+returns-then-keep_all c =
+    tick_none c.args.curve.now c.requires.curve c.args.arrivals.now c.requires.ascending
+    (λ j i below pair. OnTrue_at c.if-keep_all.true c.keep_all.ensures j i below pair)
 
 pub returns-then-has_crowded_pair : goal.returns-then-has_crowded_pair
 returns-then-has_crowded_pair c =

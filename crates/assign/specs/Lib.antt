@@ -1,0 +1,4 @@
+pub mod Sheets
+pub mod Assignment
+pub mod Trials
+pub mod Outcome

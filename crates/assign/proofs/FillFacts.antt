@@ -1,8 +1,8 @@
 -- One level filled, or found to have no task.
-use Rattle.std.proofs.Common.{◌≡◌, ◌≢◌, ℕ, ◌+◌, ◌<◌, ◌≤◌, Bool, true, false, Some, None, List, [], ◌∷◌, length, refl, sym, ap, ◌∙◌, subst, inl, inr, arith, replicate}
+use Rattle.std.proofs.Common.{◌≡◌, ◌≢◌, ℕ, ◌+◌, ◌<◌, ◌≤◌, Bool, true, false, Some, None, List, [], ◌∷◌, length, refl, sym, ap, ◌∙◌, subst, inl, inr, arith}
 use Rattle.std.proofs.Math.ListN.{set}
 use Rattle.std.proofs.lemmas.Bool.{cases_eq, cases_lt, cases_Bool}
-use Rattle.std.proofs.lemmas.List.{get_or-set_same, get_or-set_other, length-set, length-replicate}
+use Rattle.std.proofs.lemmas.List.{get_or-set_same, get_or-set_other, length-set}
 use Rattle.task_sheet.specs.declared.tasks.Task.{Task}
 use Rattle.task_sheet.specs.SheetParts.{SheetParts}
 use Rattle.task_sheet.specs.Sheets.{task_at}
@@ -41,15 +41,9 @@ keep_places m sbf sheet horizon places i p (k ∷ before) left have = elim (case
 ]
 
 module _ (m : CutMeaning) (sbf : ℕ → ℕ) (sheet : SheetParts) (horizon : ℕ) where
-  pub begun : (places : List Placed) → places ≡ replicate (length sheet.tasks) no_place → IsSoFar m sbf sheet horizon 1 (sheet_in sheet []) places []
-  begun places e = record {
-    filled = tt;
-    below = refl;
-    trial_is = refl;
-    count = ap length e ∙ length-replicate (length sheet.tasks) no_place;
-    placed = tt;
-    held = λ i b t. absurd (cc);
-  }
+  pub begun : (trial : SheetParts) (places : List Placed) → trial ≡ sheet_in sheet [] → length places ≡ length sheet.tasks →
+      IsSoFar m sbf sheet horizon 1 trial places []
+  begun trial places e count = record { filled = tt; below = refl; trial_is = e; count = count; placed = tt; held = λ i b t. absurd (cc) }
 
   pub trial_count : (level i : ℕ) (trial : SheetParts) (places : List Placed) → Searching m sbf sheet horizon level i trial places →
       length trial.tasks ≡ length sheet.tasks

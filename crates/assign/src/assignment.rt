@@ -12,9 +12,8 @@ use crate::trials::all_above;
 use abstract_rta::points_bound;
 use policy::Fp;
 use preemption::Tabled;
-use solver::task_has_one_bound;
+use solver::{Ceiled, task_has_one_bound};
 use std::alloc::Global;
-use supply::Supply;
 use task_sheet::Sheet;
 
 /// The place of a task in an order.
@@ -41,7 +40,7 @@ pub enum AssignRefusal {
 ///
 /// The levels are filled from below, each by the first task that is good there, as in Audsley's
 /// method. Where a level cannot be filled no priorities at all make every task good.
-pub fn assign<M: Tabled, S: Supply>(
+pub fn assign<M: Tabled, S: Ceiled>(
     alloc: Global,
     sheet: &Sheet,
     supply: &S,

@@ -7,12 +7,12 @@ ghost use Rattle.assign.specs.Trials.{IsSoFar, IsFilledTo};
 use crate::assignment::Placed;
 use crate::trials::try_priority;
 use preemption::Tabled;
-use supply::Supply;
+use solver::Ceiled;
 use task_sheet::Sheet;
 
 /// Gives the level to the first task that has none yet and is good there, and tells whether there is
 /// one. In the trial sheet the tasks with a level have it, and all others stand above.
-pub fn fill_level<M: Tabled, S: Supply>(
+pub fn fill_level<M: Tabled, S: Ceiled>(
     sheet: &Sheet,
     supply: &S,
     horizon: u64,

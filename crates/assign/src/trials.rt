@@ -8,9 +8,8 @@ ghost use Rattle.assign.specs.Trials.{IsGoodBoundOrNone, IsTried};
 
 use policy::Fp;
 use preemption::Tabled;
-use solver::task_bound;
+use solver::{Ceiled, task_bound};
 use std::alloc::{AllocError, Global};
-use supply::Supply;
 use task_sheet::Sheet;
 
 /// The sheet under fixed priorities, with every task above all levels.
@@ -27,7 +26,7 @@ pub fn all_above(alloc: Global, sheet: &Sheet) -> Result<Sheet, AllocError>
 }
 
 /// The least bound of task `i`, where it is at most the deadline.
-fn good_bound<M: Tabled, S: Supply>(sheet: &Sheet, supply: &S, i: u32, horizon: u64) -> Option<u64>
+fn good_bound<M: Tabled, S: Ceiled>(sheet: &Sheet, supply: &S, i: u32, horizon: u64) -> Option<u64>
     requires task { i < length sheet.now.tasks }
     requires horizon { horizon ≤ greatest_number }
     requires served { Serves M.cuts sheet.now }
@@ -39,7 +38,7 @@ fn good_bound<M: Tabled, S: Supply>(sheet: &Sheet, supply: &S, i: u32, horizon: 
 
 /// The least bound of task `i` with this priority, where it is at most the deadline: the task keeps
 /// the priority then, and else has the one from before.
-pub fn try_priority<M: Tabled, S: Supply>(
+pub fn try_priority<M: Tabled, S: Ceiled>(
     trial: &mut Sheet,
     supply: &S,
     i: u32,

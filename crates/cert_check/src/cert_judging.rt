@@ -11,7 +11,7 @@ ghost use Rattle.cert_check.specs.Standing.{IsReady};
 ghost use Rattle.cert_check.specs.Verdicts.{bounds_of, AreSound};
 
 use crate::judged::Judged;
-use crate::line_judging::line_judged;
+use crate::line_judging::{line_judged, note_point};
 use abstract_rta::points_bound;
 use certificate::{Cert, Entry, LineStep, Terms};
 use conditions::{Failed, failed_means};
@@ -36,6 +36,7 @@ fn nothing_judged() -> Judged
 }
 
 /// The terms at this place, where there are so many.
+#[inline]
 fn told_at(terms: &[Terms], at: usize) -> Option<Terms>
     ensures { result ≡ slice_get terms.now at }
 {
@@ -63,12 +64,16 @@ fn points_judged<P: Policy, M: Preemption, S: Supply>(
     let points = entry.points.as_slice();
     let terms = entry.terms.as_slice();
     for at in 0..points.len() {
-        let line = LineStep::Point {
-            offset: points[at].offset,
-            end: points[at].end,
-            terms: told_at(terms, at),
-        };
-        judged = line_judged::<P, M, S>(sheet, supply, deadlines, meter, judged, line);
+        let told = told_at(terms, at);
+        note_point::<P, M, S>(
+            sheet,
+            supply,
+            meter,
+            &mut judged,
+            points[at].offset,
+            points[at].end,
+            &told,
+        );
     }
     judged
 }

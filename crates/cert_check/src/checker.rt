@@ -9,7 +9,7 @@ ghost use Rattle.cert_check.specs.Verdicts.{cert_verdict_of, IsVerdict, IsBounde
 
 use crate::judged::Judged;
 use crate::judging::Verdict;
-use crate::line_judging::line_judged;
+use crate::line_judging::note_line;
 use abstract_rta::points_bound;
 use certificate::{LineStep, Lines, text_has_one_reading};
 use conditions::failed_means;
@@ -59,13 +59,14 @@ impl<'a, P: Policy, M: Preemption, S: Supply> Model for Checker<'a, P, M, S> {
 }
 
 /// The bounds after one more line.
-fn note_bound(bounds: &mut [u64], line: LineStep)
-    ensures { bounds.new ≡ bounds_noted bounds.old line }
+#[inline]
+fn note_bound(bounds: &mut [u64], line: &LineStep)
+    ensures { bounds.new ≡ bounds_noted bounds.old line.now }
 {
     if let LineStep::Entry { task, bound, .. } = line
-        && (task as usize) < bounds.len()
+        && (*task as usize) < bounds.len()
     {
-        bounds[task as usize] = bound;
+        bounds[*task as usize] = *bound;
     }
 }
 
@@ -105,6 +106,7 @@ impl<'a, P: Policy, M: Preemption, S: Supply> Checker<'a, P, M, S> {
 
     /// Takes the bytes up to and with the first newline, or all where there is none, and says how
     /// many these are.
+    #[inline]
     fn feed_line(&mut self, bytes: &[u8]) -> usize
         ensures first { IsFirstLine bytes.now result }
         ensures stands { (made : MadeWith S) (b : List ℕ) →
@@ -112,14 +114,14 @@ impl<'a, P: Policy, M: Preemption, S: Supply> Checker<'a, P, M, S> {
             IsAt P.meaning M.cuts S.sbf self.new made (b ++ take result bytes.now) }
     {
         let (count, line) = self.lines.feed_line(bytes);
-        note_bound(&mut self.bounds, line);
-        self.judged = line_judged::<P, M, S>(
+        note_bound(&mut self.bounds, &line);
+        note_line::<P, M, S>(
             self.sheet,
             self.supply,
             self.deadlines,
             &mut self.meter,
-            self.judged,
-            line,
+            &mut self.judged,
+            &line,
         );
         count
     }

@@ -33,6 +33,7 @@ fn count_failed(sheet: &Sheet, failed: Option<Failed>, count: u32) -> Option<Fai
 }
 
 /// What is known after the line of an entry. The meter stands at its task then.
+#[inline(never)]
 fn entry_judged<P: Policy, M: Preemption, S: Supply>(
     sheet: &Sheet,
     supply: &S,
@@ -70,33 +71,70 @@ fn entry_judged<P: Policy, M: Preemption, S: Supply>(
     }
 }
 
-/// What is known after the line of a point. The meter stands there then, where nothing failed.
-fn point_judged<P: Policy, M: Preemption, S: Supply>(
+/// Notes the line of a point. The meter stands there then, where nothing failed.
+#[inline]
+pub(crate) fn note_point<P: Policy, M: Preemption, S: Supply>(
     sheet: &Sheet,
     supply: &S,
     meter: &mut Meter<'_, P, M>,
-    judged: Judged,
+    judged: &mut Judged,
     offset: u64,
     end: u64,
-    terms: Option<Terms>,
-) -> Judged
-    requires fits { LineFits sheet.now judged (says.Point offset end terms) }
+    terms: &Option<Terms>,
+)
+    requires fits { LineFits sheet.now judged.old (says.Point offset end terms.now) }
     requires served { Serves M.cuts sheet.now }
-    requires ready { IsReady sheet.now meter.old judged }
-    ensures judged { result ≡ judge_line P.meaning M.cuts (S.sbf supply.now) sheet.now false judged
-        (says.Point offset end terms) }
-    ensures ready { IsReady sheet.now meter.new result }
+    requires ready { IsReady sheet.now meter.old judged.old }
+    ensures judged { judged.new ≡ judge_line P.meaning M.cuts (S.sbf supply.now) sheet.now false
+        judged.old (says.Point offset end terms.now) }
+    ensures ready { IsReady sheet.now meter.new judged.new }
 {
-    let after = Judged {
-        before: Some(offset),
-        ..judged
-    };
     if judged.failed.is_some() {
-        return after;
+        judged.before = Some(offset);
+        return;
     }
-    Judged {
-        failed: point_failed::<P, M, S>(sheet, supply, meter, &judged, offset, end, terms),
-        ..after
+    judged.failed = point_failed::<P, M, S>(sheet, supply, meter, judged, offset, end, terms);
+    judged.before = Some(offset);
+}
+
+/// Notes one more line.
+#[inline]
+pub(crate) fn note_line<P: Policy, M: Preemption, S: Supply>(
+    sheet: &Sheet,
+    supply: &S,
+    deadlines: bool,
+    meter: &mut Meter<'_, P, M>,
+    judged: &mut Judged,
+    line: &LineStep,
+)
+    requires fits { LineFits sheet.now judged.old line.now }
+    requires served { Serves M.cuts sheet.now }
+    requires ready { IsReady sheet.now meter.old judged.old }
+    ensures judged { judged.new ≡ judge_line P.meaning M.cuts (S.sbf supply.now) sheet.now deadlines
+        judged.old line.now }
+    ensures ready { IsReady sheet.now meter.new judged.new }
+{
+    match line {
+        LineStep::More | LineStep::Bad => {}
+        LineStep::Tasks(count) => {
+            judged.failed = count_failed(sheet, judged.failed, *count);
+        }
+        LineStep::Entry {
+            task,
+            window,
+            bound,
+            ..
+        } => {
+            *judged = entry_judged::<P, M, S>(
+                sheet, supply, deadlines, meter, *judged, *task, *window, *bound,
+            );
+        }
+        LineStep::Point { offset, end, terms } => {
+            note_point::<P, M, S>(sheet, supply, meter, judged, *offset, *end, terms);
+        }
+        LineStep::End => {
+            judged.failed = closed_failed::<P, M>(sheet, meter, judged);
+        }
     }
 }
 
@@ -116,24 +154,7 @@ pub(crate) fn line_judged<P: Policy, M: Preemption, S: Supply>(
         judged line }
     ensures ready { IsReady sheet.now meter.new result }
 {
-    match line {
-        LineStep::More | LineStep::Bad => judged,
-        LineStep::Tasks(count) => Judged {
-            failed: count_failed(sheet, judged.failed, count),
-            ..judged
-        },
-        LineStep::Entry {
-            task,
-            window,
-            bound,
-            ..
-        } => entry_judged::<P, M, S>(sheet, supply, deadlines, meter, judged, task, window, bound),
-        LineStep::Point { offset, end, terms } => {
-            point_judged::<P, M, S>(sheet, supply, meter, judged, offset, end, terms)
-        }
-        LineStep::End => Judged {
-            failed: closed_failed::<P, M>(sheet, meter, &judged),
-            ..judged
-        },
-    }
+    let mut judged = judged;
+    note_line::<P, M, S>(sheet, supply, deadlines, meter, &mut judged, &line);
+    judged
 }

@@ -23,6 +23,7 @@ use task_sheet::Sheet;
 
 /// Whether an offset is missing between the one of the meter and `q`, the next one or the window's
 /// end in ticks: whether `K5` fails.
+#[inline]
 #[tactic(auto, using(crate::proofs::GapFacts::gap_none, crate::proofs::GapFacts::gap_some))]
 fn gap_failed<P: Policy, M: Preemption>(sheet: &Sheet, meter: &Meter<'_, P, M>, q: u64) -> bool
     requires sheet { meter.now.sheet ≡ sheet.now }
@@ -43,6 +44,7 @@ fn gap_failed<P: Policy, M: Preemption>(sheet: &Sheet, meter: &Meter<'_, P, M>, 
 
 /// `K5` for the gap from the last point of the last entry up to `q`, the next offset or the window's
 /// end in ticks.
+#[inline]
 fn gap_before_failed<P: Policy, M: Preemption>(
     sheet: &Sheet,
     meter: &Meter<'_, P, M>,
@@ -79,6 +81,7 @@ pub(crate) fn closed_failed<P: Policy, M: Preemption>(
 }
 
 /// Whether an offset may follow the one before, or be the first.
+#[inline]
 fn is_next(before: Option<u64>, offset: u64) -> bool
     ensures test { result ≡ comes_next before offset }
     ensures later { result ≡ true → IfSome before (λ b. b < offset) }
@@ -90,6 +93,7 @@ fn is_next(before: Option<u64>, offset: u64) -> bool
 }
 
 /// The terms of the meter's point, which is of this task and at this offset, in ticks.
+#[inline(never)]
 #[tactic(auto, unfolding(demand::specs::Demand::need_of))]
 fn terms_there<P: Policy, M: Preemption>(
     sheet: &Sheet,
@@ -116,6 +120,7 @@ fn terms_there<P: Policy, M: Preemption>(
 
 /// The first of `K7`, `K8` and `K10` that fails at the meter's point. The bound, the offset and the
 /// end are in ticks.
+#[inline]
 #[tactic(auto, using(task_sheet::specs::Limits::jitter_high))]
 fn demand_failed<P: Policy, M: Preemption, S: Supply>(
     sheet: &Sheet,
@@ -125,7 +130,7 @@ fn demand_failed<P: Policy, M: Preemption, S: Supply>(
     bound: u64,
     offset: u64,
     end: u64,
-    told: Option<Terms>,
+    told: &Option<Terms>,
 ) -> Option<Failed>
     requires task { task < length sheet.now.tasks }
     requires bound { bound ≤ greatest_number }
@@ -135,7 +140,7 @@ fn demand_failed<P: Policy, M: Preemption, S: Supply>(
     requires at { meter.now ≡ meter_at sheet.now task offset end }
     requires within { end + (task_at sheet.now task).jitter ≤ offset + bound }
     ensures { result ≡ demand_failed_of P.meaning M.cuts (S.sbf supply.now) sheet.now task bound
-        offset end told }
+        offset end told.now }
 {
     let jitter = sheet.task(task).jitter;
     let need = meter.need();
@@ -146,7 +151,7 @@ fn demand_failed<P: Policy, M: Preemption, S: Supply>(
         return Some(Failed::of_point(task, offset, Cond::K8));
     }
     if let Some(told) = told
-        && told != terms_there::<P, M>(sheet, meter, task, offset)
+        && *told != terms_there::<P, M>(sheet, meter, task, offset)
     {
         return Some(Failed::of_point(task, offset, Cond::K10));
     }
@@ -155,6 +160,7 @@ fn demand_failed<P: Policy, M: Preemption, S: Supply>(
 
 /// The first of `K4` to `K8` and `K10` that fails at a point of the last entry, where nothing failed
 /// before. Offset and end are in ticks. Where none fails the meter stands at the point then.
+#[inline]
 #[tactic(auto, using(task_sheet::specs::Limits::jitter_high))]
 pub(crate) fn point_failed<P: Policy, M: Preemption, S: Supply>(
     sheet: &Sheet,
@@ -163,7 +169,7 @@ pub(crate) fn point_failed<P: Policy, M: Preemption, S: Supply>(
     judged: &Judged,
     offset: u64,
     end: u64,
-    told: Option<Terms>,
+    told: &Option<Terms>,
 ) -> Option<Failed>
     requires window { judged.now.window ≤ greatest_number }
     requires bound { judged.now.bound ≤ greatest_number }
@@ -173,7 +179,7 @@ pub(crate) fn point_failed<P: Policy, M: Preemption, S: Supply>(
     requires sheet { meter.old.sheet ≡ sheet.now }
     requires seated { IsSeated sheet.now meter.old judged.now }
     ensures first { result ≡ point_failed_of P.meaning M.cuts (S.sbf supply.now) sheet.now
-        judged.now.task judged.now.window judged.now.bound judged.now.before offset end told }
+        judged.now.task judged.now.window judged.now.bound judged.now.before offset end told.now }
     ensures sheet { meter.new.sheet ≡ sheet.now }
     ensures at { IfNone result (meter.new ≡ meter_at sheet.now judged.now.task offset end) }
     ensures below { IfNone result (offset < judged.now.window) }

@@ -6,6 +6,7 @@ pub mod LineFacts
 pub mod ProgressFacts
 pub mod FeedFacts
 pub mod ScanFacts
+pub mod PassFacts
 pub mod StepFacts
 pub mod ReadingFacts
 pub mod WritingFacts

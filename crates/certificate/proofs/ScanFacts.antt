@@ -1,9 +1,10 @@
 -- A point's line in front of the bytes, read at once.
 use Rattle.std.proofs.Common.{◌≢◌, ◌≡◌, ℕ, suc, zero, ◌+◌, ◌-◌, ◌%◌, ◌^◌, ◌<◌, ◌≤◌, ◌==◌, Bool, cond, List, [], ◌∷◌, ◌++◌, Option, Some, None, length}
 use Rattle.std.proofs.Common.{get_or, take, drop, codes, decimal, refl, sym, ap, subst, ◌∙◌, arith, append_assoc, length-append}
-use Rattle.std.proofs.lemmas.List.{append-nil, length-take-le, get_or-take, take_at, nil_from_length, take-append-drop, take_rest, drop_more}
+use Rattle.std.proofs.lemmas.List.{append-nil, length-take, length-take-le, get_or-take, take_at, nil_from_length, take-append-drop, take_rest, drop_more}
 use Rattle.std.proofs.lemmas.List.Sums.{sum_by-cons}
 use Rattle.std.proofs.lemmas.Fmt.{decimal_by_steps_wide}
+use Rattle.std.proofs.lemmas.Str.Parse.{digits_value_short, numerals_by_value, tells_digits}
 use Rattle.std.specs.Str.Parse.{AllDigits, digits_value}
 use Rattle.poet_io.specs.Texts.{newlines}
 use Rattle.poet_io.proofs.DecimalFacts.{IsOneLine, one_line_append, digit_is_no_newline, canonical}
@@ -182,6 +183,18 @@ pub point_said : (p : Place) (l : PointLine) (line : ℕ) (s : LineStep) (bytes 
     IsProgress p line → IsLineOf p.version l → bytes ≡ point_text l ++ rest
     → point_step l ≡ said_after s (record { place = p; line = line }) (take (length bytes - length rest) bytes)
 point_said p l line s bytes rest e right h is = sym (reads_point p l line s bytes rest e (point_some p line e right) h is).step
+
+-- so few digits write a small number
+digits_short : (bytes : List ℕ) (n v k : ℕ) → n ≤ k → AllDigits 10 (take n bytes) → v ≡ digits_value 10 (take n bytes) → v < 10 ^ k
+digits_short bytes n v k few all value =
+    let short : length (take n bytes) ≤ k = omega (arith, few, length-take n bytes) in
+    subst (λ (w : ℕ). w < 10 ^ k) (sym value) (digits_value_short (numerals_by_value (AllDigits 10) tells_digits) (take n bytes) k all short)
+
+pub one_more_fits : (bytes : List ℕ) (n v : ℕ) → n < 18 → AllDigits 10 (take n bytes) → v ≡ digits_value 10 (take n bytes) → v < 10 ^ 17
+one_more_fits bytes n v few all value = digits_short bytes n v 17 (omega arith) all value
+
+pub digits_small : (bytes : List ℕ) (n v : ℕ) → n ≤ 18 → AllDigits 10 (take n bytes) → v ≡ digits_value 10 (take n bytes) → v < 10 ^ 18
+digits_small bytes n v few all value = digits_short bytes n v 18 few all value
 
 -- a number in front of the bytes
 pub number_in_front : (bytes : List ℕ) (n v ender : ℕ) → n < length bytes → 0 < n → AllDigits 10 (take n bytes) →

@@ -1,6 +1,6 @@
 -- What is made of the lines said so far.
-use Rattle.std.proofs.Common.{◌≡◌, ℕ, suc, ◌+◌, ◌≤◌, ◌==◌, cond, List, [], ◌∷◌, ◌++◌, length, get_or, take, map, Option, Some, None, All, fold}
-use Rattle.std.proofs.Common.{slice_index_or, if◌then◌else◌, refl, sym, ap, subst, ◌∙◌, inl, inr, arith, append_assoc}
+use Rattle.std.proofs.Common.{◌≡◌, ℕ, zero, suc, ◌+◌, ◌≤◌, ◌==◌, cond, List, [], ◌∷◌, ◌++◌, length, get_or, take, map, Option, Some, None, All, fold}
+use Rattle.std.proofs.Common.{slice_index_or, slice_set, if◌then◌else◌, refl, sym, ap, subst, ◌∙◌, inl, inr, arith, append_assoc}
 use Rattle.std.proofs.lemmas.List.{append-nil, take_more, take_all, get_or_past}
 use Rattle.std.proofs.lemmas.List.Sums.{fold_push, fold-append}
 use Rattle.std.proofs.lemmas.Bool.{cases_Bool, cases_lt}
@@ -67,6 +67,16 @@ pub add_point-last : (front : List Entry) (e : Entry) (l : PointLine) → add_po
 add_point-last [] e l = refl
 add_point-last (f ∷ []) e l = refl
 add_point-last (f ∷ (g ∷ front)) e l = ap (λ (es : List Entry). f ∷ es) (add_point-last (g ∷ front) e l)
+
+-- the last entry is the one with the greatest number
+pub add_point-there : (es : List Entry) (none e : Entry) (k : ℕ) (l : PointLine) → k + 1 ≡ length es → e ≡ with_point (slice_index_or es k none) l →
+    slice_set es k e ≡ add_point es l
+add_point-there [] none e k l last is = absurd (omega (arith, last))
+add_point-there (f ∷ []) none e zero l last is = ap (λ (x : Entry). x ∷ []) is
+add_point-there (f ∷ []) none e (suc k) l last is = absurd (omega (arith, last))
+add_point-there (f ∷ (g ∷ es)) none e zero l last is = absurd (omega (arith, last))
+add_point-there (f ∷ (g ∷ es)) none e (suc k) l last is =
+    ap (λ (xs : List Entry). f ∷ xs) (add_point-there (g ∷ es) none e k l (omega (arith, last)) is)
 
 abbrev entry_of : ℕ → ℕ → List Point → List Terms → Entry
 entry_of w r ps ts = record { window = w; bound = r; points = ps; terms = ts }

@@ -1,6 +1,6 @@
 //! A certificate's text as it comes, byte by byte or line by line.
 
-ghost use Rattle.std.specs.Prelude.{◌≡◌, ◌<◌, take, IfSome, IfNone, ◌↔◌, ◌==◌, ◌&&◌, ◌+◌, ℕ, [], ◌∷◌, ◌++◌, List, if◌then◌else◌, IsTrue, slice_index_or};
+ghost use Rattle.std.specs.Prelude.{◌≡◌, ◌<◌, take, IfSome, IfNone, None, ◌↔◌, ◌==◌, ◌&&◌, ◌+◌, ℕ, [], ◌∷◌, ◌++◌, List, if◌then◌else◌, IsTrue, slice_index_or};
 ghost use Rattle.lists.specs.Limits.{greatest_number};
 ghost use Rattle.poet_io.specs.Texts.{Parses, BeginsText, IsRefusedLine, newlines};
 ghost use Rattle.certificate.specs.Text.{cert_format};
@@ -9,9 +9,9 @@ ghost use Rattle.certificate.specs.FirstLines.{IsFirstLine, said_at, said_after}
 ghost use Rattle.certificate.specs.Machine.{StandsFor, after_byte, after_bytes, next_place, is_good_at};
 ghost use Rattle.certificate.specs.declared.cert.Cert.{Cert};
 
-use crate::cert::Version;
+use crate::cert::{Point, Version};
 use crate::place::Place;
-use crate::scanning::scan_point;
+use crate::scanning::{scan_full, scan_plain};
 use crate::step::LineStep;
 use std::marker::Model;
 
@@ -104,9 +104,36 @@ impl Lines {
         (bytes.len(), step)
     }
 
-    /// Takes the line of a point at once, where it is whole in front of the bytes and must come.
+    /// Takes the line of a point without terms at once, where it is whole in front of the bytes and
+    /// must come.
+    #[inline]
     #[tactic(auto, using(crate::proofs::ScanFacts::point_some))]
-    fn advance_point(&mut self, bytes: &[u8]) -> Option<(usize, LineStep)>
+    fn advance_plain(&mut self, bytes: &[u8]) -> Option<(usize, Point)>
+        ensures first { IfSome result (λ r. IsFirstLine bytes.now r.0) }
+        ensures progress { IfSome result (λ r. self.new ≡
+            after_bytes self.old (take r.0 bytes.now)) }
+        ensures step { IfSome result (λ r. LineStep.Point r.1.offset r.1.end None ≡
+            said_after (said_at self.old.place.expected) self.old (take r.0 bytes.now)) }
+        ensures stays { IfNone result (self.new ≡ self.old) }
+    {
+        if !self.place.is_at_point() {
+            return None;
+        }
+        if self.place.has_terms() {
+            return None;
+        }
+        let Some((point, rest)) = scan_plain(bytes) else {
+            return None;
+        };
+        self.place.pass_point();
+        self.line += 1;
+        Some((bytes.len() - rest.len(), point))
+    }
+
+    /// Takes the line of a point with its terms at once, where it is whole in front of the bytes and
+    /// must come.
+    #[tactic(auto, using(crate::proofs::ScanFacts::point_some))]
+    fn advance_full(&mut self, bytes: &[u8]) -> Option<(usize, LineStep)>
         ensures first { IfSome result (λ r. IsFirstLine bytes.now r.0) }
         ensures progress { IfSome result (λ r. self.new ≡
             after_bytes self.old (take r.0 bytes.now)) }
@@ -117,23 +144,42 @@ impl Lines {
         if !self.place.is_at_point() {
             return None;
         }
-        let Some(line) = scan_point(self.place.version, bytes) else {
+        if !self.place.has_terms() {
+            return None;
+        }
+        let Some((point, terms, rest)) = scan_full(bytes) else {
             return None;
         };
-        self.place = self.place.after_point(self.place.points - 1);
+        self.place.pass_point();
         self.line += 1;
         let step = LineStep::Point {
-            offset: line.point.offset,
-            end: line.point.end,
-            terms: line.terms,
+            offset: point.offset,
+            end: point.end,
+            terms: Some(terms),
         };
-        Some((bytes.len() - line.rest.len(), step))
+        Some((bytes.len() - rest.len(), step))
+    }
+
+    /// Takes the bytes up to and with the first newline: a point with terms at once, other bytes one
+    /// by one.
+    #[inline(never)]
+    fn advance_other(&mut self, bytes: &[u8]) -> (usize, LineStep)
+        ensures first { IsFirstLine bytes.now result.0 }
+        ensures progress { self.new ≡ after_bytes self.old (take result.0 bytes.now) }
+        ensures step { result.1 ≡ said_after (said_at self.old.place.expected) self.old
+            (take result.0 bytes.now) }
+    {
+        if let Some(read) = self.advance_full(bytes) {
+            return read;
+        }
+        self.advance_line(bytes)
     }
 
     /// Takes the bytes up to and with the first newline, or all where there is none, and says how
     /// many these are, and what the line says that ends with them.
     ///
     /// It does what `feed` does for each of these bytes; the line of a point is read at once.
+    #[inline]
     #[tactic(auto, using(crate::proofs::FeedFacts::says_fed))]
     pub fn feed_line(&mut self, bytes: &[u8]) -> (usize, LineStep)
         ensures first { IsFirstLine bytes.now result.0 }
@@ -150,10 +196,15 @@ impl Lines {
             (if newlines (take result.0 bytes.now) == 1
             then slice_index_or (steps_of c) (newlines b) LineStep.More else LineStep.More) }
     {
-        if let Some(read) = self.advance_point(bytes) {
-            return read;
+        if let Some((count, point)) = self.advance_plain(bytes) {
+            let step = LineStep::Point {
+                offset: point.offset,
+                end: point.end,
+                terms: None,
+            };
+            return (count, step);
         }
-        self.advance_line(bytes)
+        self.advance_other(bytes)
     }
 
     /// Whether the bytes so far are a certificate's text.

@@ -3,7 +3,7 @@
 //! A text is words, which are fixed, and numbers. What comes next is always one of the two, so a
 //! place needs no memory, and one byte leads from place to place.
 
-ghost use Rattle.std.specs.Prelude.{IsTrue, ◌≡◌, ◌<◌, ◌≤◌, ◌+◌, ◌-◌, ℕ, Some, length, slice_index};
+ghost use Rattle.std.specs.Prelude.{IsTrue, if◌then◌else◌, ◌≡◌, ◌<◌, ◌≤◌, ◌+◌, ◌-◌, ℕ, Some, length, slice_index};
 ghost use Rattle.lists.specs.Limits.{most_tasks};
 ghost use Rattle.certificate.specs.Machine.{word_text, after_word, word_step, least, greatest, end_ender, ender, at_place, bad, after_point, after_end, after_number, in_word, version_digit, first_digit, more_digits, next_place, start, is_good_at, is_over_at, IsRightField, IsPlace};
 ghost use Rattle.certificate.specs.FirstLines.{said_at};
@@ -252,6 +252,23 @@ impl Place {
         }
     }
 
+    /// Passes the line of a point, where it must come.
+    #[inline]
+    #[tactic(auto, using(crate::proofs::PassFacts::point_passed))]
+    pub fn pass_point(&mut self)
+        requires few { self.old.task + self.old.after < most_tasks }
+        requires some { 1 ≤ self.old.points }
+        requires here { self.old.expected ≡ Expected.Rest Word.Point 0 }
+        ensures { self.new ≡ after_point self.old.version self.old.task self.old.after
+            (self.old.points - 1) }
+    {
+        if self.points > 1 {
+            self.points -= 1;
+        } else {
+            *self = self.after_point(0);
+        }
+    }
+
     /// At `expected`, where no line ends.
     fn with(self, expected: Expected) -> (Place, LineStep)
         ensures { result ≡ (at_place self.version expected self.task self.after self.points, More) }
@@ -466,10 +483,19 @@ impl Place {
     }
 
     /// Whether the line of a point must come.
-    pub fn is_at_point(self) -> bool
-        ensures { IsTrue result → self.expected ≡ Expected.Rest Word.Point 0 }
+    #[inline]
+    pub fn is_at_point(&self) -> bool
+        ensures { IsTrue result → self.now.expected ≡ Expected.Rest Word.Point 0 }
     {
         matches!(&self.expected, Expected::Rest(Word::Point, 0))
+    }
+
+    /// Whether points have terms here.
+    #[inline]
+    pub fn has_terms(&self) -> bool
+        ensures { self.now.version ≡ (if result then Version.Two else Version.One) }
+    {
+        matches!(&self.version, Version::Two)
     }
 
     /// Whether what led here is a certificate.

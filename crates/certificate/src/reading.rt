@@ -23,16 +23,16 @@ fn push_point(entry: &mut Entry, point: Point, terms: Option<Terms>) -> Result<(
     Ok(())
 }
 
-/// Appends a point to the last entry. No point is copied.
+/// Appends a point to the last entry.
 fn add_point(entries: &mut Vec<Entry>, point: Point, terms: Option<Terms>) -> Result<(), AllocError>
     ensures { OnOk result (entries.new.items ≡ add_point entries.old.items (point_line point
         terms)) }
 {
-    let Some(mut entry) = entries.pop() else {
+    let count = entries.len();
+    if count == 0 {
         return Ok(());
-    };
-    push_point(&mut entry, point, terms)?;
-    entries.push(entry)?;
+    }
+    push_point(&mut entries[count - 1], point, terms)?;
     Ok(())
 }
 

@@ -26,6 +26,16 @@ kept p m sheet ok lawful i from a in_i h b before same = record {
   high = before.high;
 }
 
+-- where nothing blocks, nothing does at a later offset
+pub none_kept : (p : PolicyMeaning) (m : CutMeaning) (sheet : SheetParts) → IsValidSheet sheet → IsLawfulPolicy p sheet →
+    (i from a : ℕ) → i < length sheet.tasks → from ≤ a →
+    (b : Blocker) → IsBlocker p m sheet i from b → b.block ≡ 0 → IsBlocker p m sheet i a b
+none_kept p m sheet ok lawful i from a in_i h b before none = record {
+  in_range = before.in_range;
+  greatest = omega (arith, none, before.greatest, block_less p m sheet ok lawful i in_i from a h);
+  high = before.high;
+}
+
 pub found : (p : PolicyMeaning) (m : CutMeaning) (sheet : SheetParts) (i a n : ℕ) (b : Blocker) → b.task < length sheet.tasks → b.block ≤ 1000000000 →
     b.block ≡ max_below (block_of p m sheet i a) n → n ≡ length sheet.tasks → IsBlocker p m sheet i a b
 unfolding blocking_of

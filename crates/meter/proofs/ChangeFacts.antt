@@ -1,5 +1,5 @@
 use Rattle.std.specs.Option.{unwrap_or}
-use Rattle.std.proofs.Common.{◌≡◌, ◌≢◌, ℕ, ◌+◌, ◌-◌, ◌≤◌, ◌<◌, Bool, cond, Option, Some, None, length, ap, inl, inr, arith, refl, sym, ◌∙◌, subst}
+use Rattle.std.proofs.Common.{◌≡◌, ◌≢◌, ℕ, ◌+◌, ◌-◌, ◌≤◌, ◌<◌, Bool, cond, Option, Some, None, length, min, ap, inl, inr, arith, refl, sym, ◌∙◌, subst}
 use Rattle.std.proofs.Common.{eq-eqb, pos, negsuc}
 use Rattle.std.proofs.lemmas.Bool.{cases_lt, cases_eq, ne_eqb}
 use Rattle.std.proofs.lemmas.Int.{ints}
@@ -67,7 +67,7 @@ module _ (p : PolicyMeaning) (sheet : SheetParts) (ok : IsValidSheet sheet) (law
   has_reached ne a s stair b change = changed (task_at sheet o).curve (ok.each o in_o).curve (reach_at p sheet i o)
       (reach_mono p sheet lawful i o in_i in_o ne) a s stair b change.later (λ e. change.differs (compared_reach ne b ∙ e ∙ sym (compared_reach ne a)))
 
-  pub other_change : (ne : i ≢ o) (a last : ℕ) (s : Stair) → IsStair (task_at sheet o).curve s (reach_at p sheet i o a) →
+  other_change : (ne : i ≢ o) (a last : ℕ) (s : Stair) → IsStair (task_at sheet o).curve s (reach_at p sheet i o a) →
       (r : Option ℕ) → IsLeastTo (λ b. s.until ≤ reach_at p sheet i o b) last r → IsLeastTo (IsChange p sheet i a o) last r
   other_change ne a last s stair None none = λ k l change. none k l (has_reached ne a s stair k change)
   other_change ne a last s stair (Some n) least = (
@@ -83,7 +83,7 @@ own_compared : (p : PolicyMeaning) (sheet : SheetParts) (i b : ℕ) →
 own_compared p sheet i b = ap (λ (w : Bool). cond w (alpha_of (task_at sheet i).curve (b + 1 + (task_at sheet i).jitter))
     (cap_count (task_at sheet i).curve (p.cap sheet i i b))) (eq-eqb i i refl)
 
-pub own_change : (p : PolicyMeaning) (sheet : SheetParts) → IsValidSheet sheet → (i a : ℕ) → i < length sheet.tasks →
+own_change : (p : PolicyMeaning) (sheet : SheetParts) → IsValidSheet sheet → (i a : ℕ) → i < length sheet.tasks →
     (s : Stair) → IsStair (task_at sheet i).curve s (a + 1 + (task_at sheet i).jitter) →
     IsLeast (IsChange p sheet i a i) (s.until - 1 - (task_at sheet i).jitter)
 own_change p sheet ok i a in_i s stair =
@@ -112,7 +112,7 @@ module _ (p : PolicyMeaning) (sheet : SheetParts) (i a o : ℕ) where
     ]
   ]
 
-  pub counted_some : (n : ℕ) → IsLeast (IsChange p sheet i a o) n → IsCounted p sheet i a o (compared_of p sheet i a o) n
+  counted_some : (n : ℕ) → IsLeast (IsChange p sheet i a o) n → IsCounted p sheet i a o (compared_of p sheet i a o) n
   counted_some n least = record {
     is = refl;
     later = least.holds.later;
@@ -120,7 +120,7 @@ module _ (p : PolicyMeaning) (sheet : SheetParts) (i a o : ℕ) where
     differs = λ l. least.holds.differs;
   }
 
-  pub counted_none : ((k : ℕ) → k ≤ 1000000000 → IsChange p sheet i a o k → ⊥) → a < 1000000000 → IsCounted p sheet i a o (compared_of p sheet i a o) 2000000000
+  counted_none : ((k : ℕ) → k ≤ 1000000000 → IsChange p sheet i a o k → ⊥) → a < 1000000000 → IsCounted p sheet i a o (compared_of p sheet i a o) 2000000000
   counted_none none less = record {
     is = refl;
     later = omega arith;
@@ -128,13 +128,51 @@ module _ (p : PolicyMeaning) (sheet : SheetParts) (i a o : ℕ) where
     differs = λ l. absurd (omega arith);
   }
 
-  pub counted_by : a < 1000000000 → (r : Option ℕ) → IsLeastTo (IsChange p sheet i a o) 1000000000 r →
+  counted_by : a < 1000000000 → (r : Option ℕ) → IsLeastTo (IsChange p sheet i a o) 1000000000 r →
       IsCounted p sheet i a o (compared_of p sheet i a o) (unwrap_or r 2000000000)
   counted_by less None h = counted_none h less
   counted_by less (Some n) h = counted_some n h.1
 
+  -- a change past them all may be cut
+  counted_cut : a < 1000000000 → (count n : ℕ) → IsCounted p sheet i a o count n → IsCounted p sheet i a o count (min n 2000000000)
+  counted_cut less count n counted = record {
+    is = counted.is;
+    later = omega (arith, counted.later);
+    same = λ b h l m. counted.same b h (omega arith) m;
+    differs = λ l.
+        let e : n ≡ min n 2000000000 = omega arith in
+        subst (λ (w : ℕ). compared_of p sheet i w o ≢ count) e (counted.differs (omega arith));
+  }
+
+pub least_high : (P : ℕ → Type 0) (r : Option ℕ) → IsLeastTo P 1000000000 r → unwrap_or r 2000000000 ≤ 2000000000
+least_high P None h = omega arith
+least_high P (Some n) h = omega (arith, h.0)
+
+-- the value of the stair on which a task stands, and what follows its end
+pub own_counted : (p : PolicyMeaning) (sheet : SheetParts) → IsValidSheet sheet → (i a : ℕ) → a < 1000000000 → i < length sheet.tasks →
+    (s : Stair) → IsStair (task_at sheet i).curve s (a + 1 + (task_at sheet i).jitter) →
+    (change : ℕ) → change ≡ min (s.until - 1 - (task_at sheet i).jitter) 2000000000 → IsCounted p sheet i a i s.value change
+own_counted p sheet ok i a less in_i s stair change e =
+    let value : compared_of p sheet i a i ≡ s.value = own_compared p sheet i a ∙ stair.flat (a + 1 + (task_at sheet i).jitter) stair.begun stair.open_yet in
+    subst (λ (w : ℕ). IsCounted p sheet i a i w change) value
+    (subst (IsCounted p sheet i a i (compared_of p sheet i a i)) (sym e)
+    (counted_cut p sheet i a i less _ (s.until - 1 - (task_at sheet i).jitter)
+    (counted_some p sheet i a i (s.until - 1 - (task_at sheet i).jitter) (own_change p sheet ok i a in_i s stair))))
+
+pub other_counted : (p : PolicyMeaning) (sheet : SheetParts) → IsValidSheet sheet → IsLawfulPolicy p sheet → (i o : ℕ) →
+    i < length sheet.tasks → o < length sheet.tasks → i ≢ o → (a : ℕ) → a < 1000000000 →
+    (s : Stair) → IsStair (task_at sheet o).curve s (reach_at p sheet i o a) →
+    (r : Option ℕ) → IsLeastTo (λ b. s.until ≤ reach_at p sheet i o b) 1000000000 r →
+    (change : ℕ) → change ≡ unwrap_or r 2000000000 → IsCounted p sheet i a o s.value change
+other_counted p sheet ok lawful i o in_i in_o ne a less s stair r least change e =
+    let value : compared_of p sheet i a o ≡ s.value =
+    compared_reach p sheet ok lawful i o in_i in_o ne a ∙ stair.flat (reach_at p sheet i o a) stair.begun stair.open_yet in
+    subst (λ (w : ℕ). IsCounted p sheet i a o w change) value
+    (subst (IsCounted p sheet i a o (compared_of p sheet i a o)) (sym e)
+    (counted_by p sheet i a o less r (other_change p sheet ok lawful i o in_i in_o ne a 1000000000 s stair r least)))
+
 -- no number is greater than the limits let it
-pub compared_high : (p : PolicyMeaning) (sheet : SheetParts) → IsValidSheet sheet → IsLawfulPolicy p sheet → (i a o : ℕ) →
+compared_high : (p : PolicyMeaning) (sheet : SheetParts) → IsValidSheet sheet → IsLawfulPolicy p sheet → (i a o : ℕ) →
     i < length sheet.tasks → o < length sheet.tasks → a < 1000000000 → compared_of p sheet i a o ≤ 5000000000000000
 compared_high p sheet ok lawful i a o in_i in_o less = elim (cases_eq i o) [
   | inl e ↦ subst (λ w. compared_of p sheet i a w ≤ 5000000000000000) e
@@ -152,3 +190,8 @@ compared_high p sheet ok lawful i a o in_i in_o less = elim (cases_eq i o) [
     reach_limited (p.cap sheet i o a) (lawful.cap_limited i o a in_i in_o ne less),
   )
 ]
+
+pub counted_high : (p : PolicyMeaning) (sheet : SheetParts) → IsValidSheet sheet → IsLawfulPolicy p sheet → (i a o count change : ℕ) →
+    i < length sheet.tasks → o < length sheet.tasks → a < 1000000000 → IsCounted p sheet i a o count change → count ≤ 5000000000000000
+counted_high p sheet ok lawful i a o count change in_i in_o less counted =
+    omega (arith, counted.is, compared_high p sheet ok lawful i a o in_i in_o less)

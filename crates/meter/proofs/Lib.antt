@@ -2,6 +2,7 @@ pub mod CapFacts
 pub mod ChangeFacts
 pub mod SetFacts
 pub mod PlaceFacts
+pub mod SoonestFacts
 pub mod NeedFacts
 pub mod BlockerFacts
 pub mod NextFacts

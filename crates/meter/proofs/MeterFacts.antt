@@ -17,7 +17,7 @@ module _ (p : PolicyMeaning) (m : CutMeaning) (sheet : SheetParts) (i a x : ℕ)
   pub whole_high : t.sum ≤ 2 ^ 91
   whole_high =
       let tracking = is.seated.tracking in
-      omega (arith, tracking.sum_is, sum_high p sheet is.valid i t.places.items (near_of p sheet i t.places.items t.untils t.froms t.sum tracking))
+      omega (arith, tracking.sum_is, sum_high p sheet is.valid i t.places.items (near_of p sheet i t.places.items t.untils t.sum tracking))
 
   module _ (lawful : IsLawfulPolicy p sheet) where
     pub rest_within : rest ≤ t.sum

@@ -1,5 +1,5 @@
-use Rattle.std.proofs.Common.{◌≡◌, ◌≢◌, ℕ, ◌+◌, ◌-◌, ◌*◌, ◌^◌, ◌≤◌, ◌<◌, List, length, set, ap, inl, inr, arith, refl, sym, ◌∙◌, subst, add-one}
-use Rattle.std.proofs.lemmas.Bool.{cases_eq, cases_lt}
+use Rattle.std.proofs.Common.{◌≡◌, ◌≢◌, ℕ, ◌+◌, ◌-◌, ◌*◌, ◌^◌, ◌≤◌, ◌<◌, min, List, length, set, ap, inl, inr, arith, refl, sym, ◌∙◌, subst, add-one}
+use Rattle.std.proofs.lemmas.Bool.{cases_eq}
 use Rattle.std.proofs.lemmas.List.{length-set, get_or-set_same, get_or-set_other}
 use Rattle.lists.specs.Sums.{sum_below}
 use Rattle.lists.proofs.SumFacts.{sum_same}
@@ -10,45 +10,40 @@ use Rattle.task_sheet.specs.Sheets.{task_at}
 use Rattle.policy.specs.PolicyMeaning.{PolicyMeaning}
 use Rattle.meter.specs.declared.tracks.Place.{Place}
 use Rattle.meter.specs.declared.tracks.Tracks.{Tracks}
-use Rattle.meter.specs.Soonests.{number_of, IsNextFrom}
+use Rattle.meter.specs.Soonests.{number_of, IsLeastNumber, left_to}
 use Rattle.meter.specs.Changes.{IsCounted}
 use Rattle.meter.specs.Places.{no_place, place_of, part_of, asked_of, IsNear, AreNear}
 use Rattle.meter.specs.Tracking.{IsKeyed, IsTracking, IsTrackingAt, HasBegun, IsOpen, AreEnded, AreCounted, IsCountedAt, KeepCounts, KeepEnds}
 use Rattle.meter.specs.Tracking.{IsEndMoved, IsRecounted, AreMoved, AreRecounted, IsReady, IsSeated, IsSeatedAt, IsSettled, AreSeated}
-use Rattle.meter.proofs.SetFacts.{set_one, set_two, set_three}
+use Rattle.meter.proofs.SetFacts.{set_one, set_two}
+use Rattle.meter.proofs.SoonestFacts.{fewer_left}
 
-pub near_of : (p : PolicyMeaning) (sheet : SheetParts) (i : ℕ) (places : List Place) (untils froms : List ℕ) (sum : ℕ) →
-    IsTracking p sheet i places untils froms sum → AreNear sheet places
-near_of p sheet i places untils froms sum tracking = record { count = tracking.count; each = λ o b. (tracking.each o b).near }
+pub near_of : (p : PolicyMeaning) (sheet : SheetParts) (i : ℕ) (places : List Place) (untils : List ℕ) (sum : ℕ) →
+    IsTracking p sheet i places untils sum → AreNear sheet places
+near_of p sheet i places untils sum tracking = record { count = tracking.count; each = λ o b. (tracking.each o b).near }
 
 -- the stair of one task at another end
-module _ (p : PolicyMeaning) (sheet : SheetParts) (i x : ℕ) (high : x ≤ 1000000000) (places : List Place) (untils froms : List ℕ)
-    (sum : ℕ) (tracking : IsTracking p sheet i places untils froms sum)
+module _ (p : PolicyMeaning) (sheet : SheetParts) (i x : ℕ) (high : x ≤ 1000000000) (places : List Place) (untils : List ℕ)
+    (sum : ℕ) (tracking : IsTracking p sheet i places untils sum)
     (o : ℕ) (b : o < length sheet.tasks) (low : (task_at sheet o).jitter ≤ 1000000000) (end : Stair)
     (stair : IsStair (task_at sheet o).curve end (x + (task_at sheet o).jitter)) where
   abbrev moved : Place
   moved = record { end = end; count = (place_of places o).count }
 
-  moved_keyed : (until from : ℕ) → until ≡ end.until - (task_at sheet o).jitter →
-      from ≡ 5000000000 + (task_at sheet o).jitter - end.from → IsKeyed (task_at sheet o) moved until from
-  moved_keyed until from e f = record {
+  moved_keyed : (until : ℕ) → until ≡ min (end.until - (task_at sheet o).jitter) 2000000000 → IsKeyed (task_at sheet o) moved until
+  moved_keyed until e = record {
     near = record { at = x + (task_at sheet o).jitter; near = omega arith; stair = stair; count_high = (tracking.each o b).near.count_high };
-    until_is = omega (arith, e, stair.open_yet);
-    from_is = omega (arith, f, stair.begun);
+    until_is = e;
   }
 
-  pub end_tracking : (until from new : ℕ) → until ≡ end.until - (task_at sheet o).jitter → from ≡ 5000000000 + (task_at sheet o).jitter - end.from →
+  pub end_tracking : (until new : ℕ) → until ≡ min (end.until - (task_at sheet o).jitter) 2000000000 →
       new ≡ sum_below (asked_of p sheet i (set places o moved)) (length sheet.tasks) →
-      IsTracking p sheet i (set places o moved) (set untils o until) (set froms o from) new
-  end_tracking until from new e f s = record {
+      IsTracking p sheet i (set places o moved) (set untils o until) new
+  end_tracking until new e s = record {
     count = omega (arith, length-set places o moved, tracking.count);
-    full = record {
-      untils_count = omega (arith, length-set untils o until, tracking.full.untils_count);
-      froms_count = omega (arith, length-set froms o from, tracking.full.froms_count);
-    };
-    each = λ k l. set_three (λ k place u v. IsKeyed (task_at sheet k) place u v) places untils froms o moved no_place until 0 from 0
-        (omega (arith, tracking.count)) (omega (arith, tracking.full.untils_count)) (omega (arith, tracking.full.froms_count))
-        (moved_keyed until from e f) k (λ ne. tracking.each k l);
+    full = omega (arith, length-set untils o until, tracking.full);
+    each = λ k l. set_two (λ k place u. IsKeyed (task_at sheet k) place u) places untils o moved no_place until 0
+        (omega (arith, tracking.count)) (omega (arith, tracking.full)) (moved_keyed until e) k (λ ne. tracking.each k l);
     sum_is = s;
   }
 
@@ -60,27 +55,26 @@ module _ (p : PolicyMeaning) (sheet : SheetParts) (i x : ℕ) (high : x ≤ 1000
   end_counts k = set_one (λ k s. s.count ≡ (place_of places k).count) places o moved no_place (omega (arith, tracking.count)) refl k (λ ne. refl)
 
 -- the number of one task at another offset
-module _ (p : PolicyMeaning) (sheet : SheetParts) (i a : ℕ) (places : List Place) (untils froms changes : List ℕ) (sum : ℕ)
-    (full : length changes ≡ length sheet.tasks) (tracking : IsTracking p sheet i places untils froms sum)
+module _ (p : PolicyMeaning) (sheet : SheetParts) (i a : ℕ) (places : List Place) (untils changes : List ℕ) (sum : ℕ)
+    (full : length changes ≡ length sheet.tasks) (tracking : IsTracking p sheet i places untils sum)
     (o : ℕ) (b : o < length sheet.tasks) (count change : ℕ) (high : count ≤ 5000000000000000) (counted : IsCounted p sheet i a o count change) where
   abbrev renewed : Place
   renewed = record { end = (place_of places o).end; count = count }
 
-  renewed_keyed : IsKeyed (task_at sheet o) renewed (number_of untils o) (number_of froms o)
+  renewed_keyed : IsKeyed (task_at sheet o) renewed (number_of untils o)
   renewed_keyed =
       let old = tracking.each o b in
       record {
         near = record { at = old.near.at; near = old.near.near; stair = old.near.stair; count_high = high };
         until_is = old.until_is;
-        from_is = old.from_is;
       }
 
   pub count_tracking : (new : ℕ) → new ≡ sum_below (asked_of p sheet i (set places o renewed)) (length sheet.tasks) →
-      IsTracking p sheet i (set places o renewed) untils froms new
+      IsTracking p sheet i (set places o renewed) untils new
   count_tracking new s = record {
     count = omega (arith, length-set places o renewed, tracking.count);
     full = tracking.full;
-    each = λ k l. set_one (λ k place. IsKeyed (task_at sheet k) place (number_of untils k) (number_of froms k)) places o renewed
+    each = λ k l. set_one (λ k place. IsKeyed (task_at sheet k) place (number_of untils k)) places o renewed
         no_place (omega (arith, tracking.count)) renewed_keyed k (λ ne. tracking.each k l);
     sum_is = s;
   }
@@ -118,18 +112,6 @@ module _ (p : PolicyMeaning) (sheet : SheetParts) (i : ℕ) (Always Done : ℕ �
     changes = refl;
   }
 
-  -- past those of which it holds already
-  pub skipped : (o n : ℕ) (before t : Tracks) → IsMoving p sheet i Always Done o before t → n ≤ length sheet.tasks →
-      ((k : ℕ) → o ≤ k → k < n → Done k (place_of t.places.items k).end) → IsMoving p sheet i Always Done n before t
-  skipped o n before t moving within past = record {
-    within = within;
-    tracking = moving.tracking;
-    always = moving.always;
-    done = λ k l. elim (cases_lt k o) [ inl c ↦ moving.done k c | inr c ↦ past k c l ];
-    counts = moving.counts;
-    changes = moving.changes;
-  }
-
   -- task o was moved
   pub moved_one : (o x : ℕ) (before t new : Tracks) → o < length sheet.tasks → IsMoving p sheet i Always Done o before t → IsEndMoved p sheet i x o t new →
       Always o (place_of new.places.items o).end → Done o (place_of new.places.items o).end → IsMoving p sheet i Always Done (o + 1) before new
@@ -148,27 +130,16 @@ module _ (p : PolicyMeaning) (sheet : SheetParts) (i : ℕ) (Always Done : ℕ �
     changes = step.changes ∙ moving.changes;
   }
 
-module _ (p : PolicyMeaning) (sheet : SheetParts) (i x : ℕ) where
-  -- on the way up, and down
-  abbrev pub IsRising : ℕ → Tracks → Tracks → Type 0
-  IsRising o before t = IsMoving p sheet i (HasBegun sheet x) (IsOpen sheet x) o before t
+-- no stair begins after x, since before
+pub record IsRising (p : PolicyMeaning) (sheet : SheetParts) (i x : ℕ) (before t : Tracks) : Type 0 where
+  pub tracking : IsTrackingAt p sheet i t
+  pub begun : (k : ℕ) → k < length sheet.tasks → HasBegun sheet x k (place_of t.places.items k).end
+  pub counts : KeepCounts before.places.items t.places.items
+  pub changes : t.changes ≡ before.changes
 
+module _ (p : PolicyMeaning) (sheet : SheetParts) (i x : ℕ) where
   abbrev pub IsFalling : ℕ → Tracks → Tracks → Type 0
   IsFalling o before t = IsMoving p sheet i (IsOpen sheet x) (HasBegun sheet x) o before t
-
-  pub rising_on : (o n : ℕ) (before t : Tracks) → IsRising o before t → IsNextFrom t.untils o x n → IsRising n before t
-  rising_on o n before t moving next =
-      skipped p sheet i (HasBegun sheet x) (IsOpen sheet x) o n before t moving (omega (arith, next.within, moving.tracking.full.untils_count))
-      (λ k h l. omega (arith, next.none k h l, (moving.tracking.each k (omega (arith, next.within, moving.tracking.full.untils_count))).until_is))
-
-  pub falling_on : (high : x ≤ 1000000000) (o n : ℕ) (before t : Tracks) → IsFalling o before t →
-      IsNextFrom t.froms o (5000000000 - 1 - x) n → IsFalling n before t
-  falling_on high o n before t moving next =
-      skipped p sheet i (IsOpen sheet x) (HasBegun sheet x) o n before t moving (omega (arith, next.within, moving.tracking.full.froms_count))
-      (λ k h l. omega (arith, next.none k h l, (moving.tracking.each k (omega (arith, next.within, moving.tracking.full.froms_count))).from_is))
-
-  pub risen_one : (o : ℕ) (before t new : Tracks) → o < length sheet.tasks → IsRising o before t → IsEndMoved p sheet i x o t new → IsRising (o + 1) before new
-  risen_one o before t new b moving step = moved_one p sheet i (HasBegun sheet x) (IsOpen sheet x) o x before t new b moving step step.at.begun step.at.open_yet
 
   pub fallen_one : (o : ℕ) (before t new : Tracks) → o < length sheet.tasks → IsFalling o before t →
       IsEndMoved p sheet i x o t new → IsFalling (o + 1) before new
@@ -181,20 +152,44 @@ module _ (p : PolicyMeaning) (sheet : SheetParts) (i x : ℕ) where
       let near = (tracking.each k l).near in
       record { begun = begun k l; open_yet = open_yet k l; flat = near.stair.flat; higher = near.stair.higher }
 
-  pub risen : (o : ℕ) (before t : Tracks) → IsRising o before t → length sheet.tasks ≤ o → AreMoved p sheet i x before t
-  risen o before t moving all = record {
-    tracking = moving.tracking;
-    ended = ended t moving.tracking moving.always (λ k l. moving.done k (omega arith));
-    counts = moving.counts;
-    changes = moving.changes;
-  }
-
   pub fallen : (o : ℕ) (before t : Tracks) → IsFalling o before t → length sheet.tasks ≤ o → AreMoved p sheet i x before t
   fallen o before t moving all = record {
     tracking = moving.tracking;
     ended = ended t moving.tracking (λ k l. moving.done k (omega arith)) moving.always;
     counts = moving.counts;
     changes = moving.changes;
+  }
+
+  pub rise_begun : (t : Tracks) → IsTrackingAt p sheet i t → ((k : ℕ) → k < length sheet.tasks → HasBegun sheet x k (place_of t.places.items k).end) →
+      IsRising p sheet i x t t
+  rise_begun t tracking begun = record { tracking = tracking; begun = begun; counts = λ k. refl; changes = refl }
+
+  pub risen_one : (o : ℕ) (before t new : Tracks) → IsRising p sheet i x before t → IsEndMoved p sheet i x o t new → IsRising p sheet i x before new
+  risen_one o before t new rising step = record {
+    tracking = step.tracking;
+    begun = λ k l. elim (cases_eq k o) [
+      | inl e ↦ subst (λ w. HasBegun sheet x w (place_of new.places.items w).end) (sym e) step.at.begun
+      | inr ne ↦ subst (λ (s : Place). HasBegun sheet x k s.end) (sym (step.others k ne)) (rising.begun k l)
+    ];
+    counts = λ k. step.counts k ∙ rising.counts k;
+    changes = step.changes ∙ rising.changes;
+  }
+
+  -- fewer stairs end by x then
+  pub rise_smaller : x ≤ 1000000000 → (o : ℕ) (t new : Tracks) → o < length sheet.tasks → IsTrackingAt p sheet i t →
+      IsEndMoved p sheet i x o t new → number_of t.untils o ≤ x → left_to new.untils x (length sheet.tasks) < left_to t.untils x (length sheet.tasks)
+  rise_smaller high o t new b tracking step low = fewer_left t.untils new.untils x o (length sheet.tasks) b low
+      (omega (arith, (step.tracking.each o b).until_is, step.at.open_yet))
+      (λ k l ne. (step.tracking.each k l).until_is
+      ∙ ap (λ (s : Place). min (s.end.until - (task_at sheet k).jitter) 2000000000) (step.others k ne) ∙ sym (tracking.each k l).until_is)
+
+  pub risen : (n : ℕ) (before t : Tracks) → IsRising p sheet i x before t → IsLeastNumber t.untils n → x < n → AreMoved p sheet i x before t
+  risen n before t rising least past = record {
+    tracking = rising.tracking;
+    ended = ended t rising.tracking rising.begun
+        (λ k l. omega (arith, least.least k (omega (arith, rising.tracking.full)), (rising.tracking.each k l).until_is));
+    counts = rising.counts;
+    changes = rising.changes;
   }
 
 -- before the next change a number stands for later offsets too
@@ -207,92 +202,74 @@ counted_later p sheet i a b o count change h high less counted = record {
   differs = counted.differs;
 }
 
--- the tasks below o are counted at b, the others at a, since before
-pub record IsRecounting (p : PolicyMeaning) (sheet : SheetParts) (i a b o : ℕ) (before t : Tracks) : Type 0 where
-  pub within : o ≤ length sheet.tasks
+-- the tasks whose numbers change after b are counted at b, since before
+pub record IsRecounting (p : PolicyMeaning) (sheet : SheetParts) (i b : ℕ) (before t : Tracks) : Type 0 where
   pub tracking : IsTrackingAt p sheet i t
   pub count : length t.changes ≡ length sheet.tasks
-  pub done : (k : ℕ) → k < o → IsCountedAt p sheet i b t.places.items t.changes k
-  pub left : (k : ℕ) → o ≤ k → k < length sheet.tasks → IsCountedAt p sheet i a t.places.items t.changes k
+  pub each : (k : ℕ) → k < length sheet.tasks → b < number_of t.changes k → IsCountedAt p sheet i b t.places.items t.changes k
   pub ends : KeepEnds before.places.items t.places.items
 
 module _ (p : PolicyMeaning) (sheet : SheetParts) (i a b : ℕ) where
-  pub recount_started : (t : Tracks) → IsTrackingAt p sheet i t → AreCounted p sheet i a t.places.items t.changes → IsRecounting p sheet i a b 0 t t
-  recount_started t tracking counted = record {
-    within = omega arith;
+  pub recount_started : a ≤ b → b ≤ 1000000000 → (t : Tracks) → IsTrackingAt p sheet i t → AreCounted p sheet i a t.places.items t.changes →
+      IsRecounting p sheet i b t t
+  recount_started order high t tracking counted = record {
     tracking = tracking;
     count = counted.count;
-    done = λ k l. absurd (omega arith);
-    left = λ k h l. counted.each k l;
+    each = λ k l past. counted_later p sheet i a b k _ _ order high past (counted.each k l);
     ends = λ k. refl;
   }
 
-  pub recount_skipped : a ≤ b → b ≤ 1000000000 → (o n : ℕ) (before t : Tracks) → IsRecounting p sheet i a b o before t →
-      IsNextFrom t.changes o b n → IsRecounting p sheet i a b n before t
-  recount_skipped order high o n before t counting next = record {
-    within = omega (arith, next.within, counting.count);
-    tracking = counting.tracking;
-    count = counting.count;
-    done = λ k l. elim (cases_lt k o) [
-      | inl c ↦ counting.done k c
-      | inr c ↦ counted_later p sheet i a b k _ _ order high (next.none k c l) (counting.left k c (omega (arith, next.within, counting.count)))
-    ];
-    left = λ k h l. counting.left k (omega (arith, next.from)) l;
-    ends = counting.ends;
-  }
-
-  pub recounted_one : (o : ℕ) (before t new : Tracks) → o < length sheet.tasks → IsRecounting p sheet i a b o before t →
-      IsRecounted p sheet i b o t new → IsRecounting p sheet i a b (o + 1) before new
-  recounted_one o before t new l counting step = record {
-    within = omega arith;
+module _ (p : PolicyMeaning) (sheet : SheetParts) (i b : ℕ) where
+  pub recounted_one : (o : ℕ) (before t new : Tracks) → IsRecounting p sheet i b before t →
+      IsRecounted p sheet i b o t new → IsRecounting p sheet i b before new
+  recounted_one o before t new counting step = record {
     tracking = step.tracking;
     count = step.count ∙ counting.count;
-    done = λ k h. elim (cases_eq k o) [
+    each = λ k l past. elim (cases_eq k o) [
       | inl e ↦ subst (λ w. IsCountedAt p sheet i b new.places.items new.changes w) (sym e) step.at
-      | inr ne ↦ step.others k b ne (counting.done k (omega arith))
+      | inr ne ↦ step.others k b ne (counting.each k l (omega (arith, step.kept k ne)))
     ];
-    left = λ k h m. step.others k a (λ e. omega arith) (counting.left k (omega arith) m);
     ends = λ k. step.ends k ∙ counting.ends k;
   }
 
-  pub recounted_all : (o : ℕ) (before t : Tracks) → IsRecounting p sheet i a b o before t → length sheet.tasks ≤ o → AreRecounted p sheet i b before t
-  recounted_all o before t counting all = record {
+  -- fewer numbers change up to b then
+  pub recount_smaller : (o : ℕ) (t new : Tracks) → o < length sheet.tasks → IsRecounted p sheet i b o t new → number_of t.changes o ≤ b →
+      left_to new.changes b (length sheet.tasks) < left_to t.changes b (length sheet.tasks)
+  recount_smaller o t new l step low = fewer_left t.changes new.changes b o (length sheet.tasks) l low step.at.later (λ k h ne. step.kept k ne)
+
+  pub recounted_all : (n : ℕ) (before t : Tracks) → IsRecounting p sheet i b before t → IsLeastNumber t.changes n → b < n → AreRecounted p sheet i b before t
+  recounted_all n before t counting least past = record {
     tracking = counting.tracking;
-    counted = record { count = counting.count; each = λ k l. counting.done k (omega arith) };
+    counted = record { count = counting.count; each = λ k l. counting.each k l (omega (arith, least.least k (omega (arith, counting.count)))) };
     ends = counting.ends;
   }
 
 -- all that is kept of one task, set
-module _ (places : List Place) (untils froms changes : List ℕ) (o : ℕ) (in_places : o < length places)
-    (in_untils : o < length untils) (in_froms : o < length froms) (in_changes : o < length changes)
-    (place : Place) (until from change : ℕ) where
-  all_same : (P : Place → ℕ → ℕ → ℕ → Type 0) → P place until from change →
-      P (place_of (set places o place) o) (number_of (set untils o until) o) (number_of (set froms o from) o) (number_of (set changes o change) o)
+module _ (places : List Place) (untils changes : List ℕ) (o : ℕ) (in_places : o < length places)
+    (in_untils : o < length untils) (in_changes : o < length changes) (place : Place) (until change : ℕ) where
+  all_same : (P : Place → ℕ → ℕ → Type 0) → P place until change →
+      P (place_of (set places o place) o) (number_of (set untils o until) o) (number_of (set changes o change) o)
   all_same P h =
-      subst (λ (s : Place). P s (number_of (set untils o until) o) (number_of (set froms o from) o)
-      (number_of (set changes o change) o)) (sym (get_or-set_same places o place no_place in_places))
-      (subst (λ w. P place w (number_of (set froms o from) o) (number_of (set changes o change) o)) (sym (get_or-set_same untils o until 0 in_untils))
-      (subst (λ w. P place until w (number_of (set changes o change) o)) (sym (get_or-set_same froms o from 0 in_froms))
-      (subst (P place until from) (sym (get_or-set_same changes o change 0 in_changes)) h)))
+      subst (λ (s : Place). P s (number_of (set untils o until) o) (number_of (set changes o change) o))
+      (sym (get_or-set_same places o place no_place in_places))
+      (subst (λ w. P place w (number_of (set changes o change) o)) (sym (get_or-set_same untils o until 0 in_untils))
+      (subst (P place until) (sym (get_or-set_same changes o change 0 in_changes)) h))
 
-  all_other : (P : Place → ℕ → ℕ → ℕ → Type 0) (k : ℕ) → k ≢ o → P (place_of places k) (number_of untils k) (number_of froms k) (number_of changes k) →
-      P (place_of (set places o place) k) (number_of (set untils o until) k) (number_of (set froms o from) k) (number_of (set changes o change) k)
+  all_other : (P : Place → ℕ → ℕ → Type 0) (k : ℕ) → k ≢ o → P (place_of places k) (number_of untils k) (number_of changes k) →
+      P (place_of (set places o place) k) (number_of (set untils o until) k) (number_of (set changes o change) k)
   all_other P k ne h =
-      subst (λ (s : Place). P s (number_of (set untils o until) k) (number_of (set froms o from) k)
-      (number_of (set changes o change) k)) (sym (get_or-set_other places o k place no_place ne))
-      (subst (λ w. P (place_of places k) w (number_of (set froms o from) k) (number_of (set changes o change) k)) (sym (get_or-set_other untils o k until 0 ne))
-      (subst (λ w. P (place_of places k) (number_of untils k) w (number_of (set changes o change) k)) (sym (get_or-set_other froms o k from 0 ne))
-      (subst (P (place_of places k) (number_of untils k) (number_of froms k)) (sym (get_or-set_other changes o k change 0 ne)) h)))
+      subst (λ (s : Place). P s (number_of (set untils o until) k) (number_of (set changes o change) k))
+      (sym (get_or-set_other places o k place no_place ne))
+      (subst (λ w. P (place_of places k) w (number_of (set changes o change) k)) (sym (get_or-set_other untils o k until 0 ne))
+      (subst (P (place_of places k) (number_of untils k)) (sym (get_or-set_other changes o k change 0 ne)) h))
 
-  pub settled_at : (p : PolicyMeaning) (sheet : SheetParts) (i : ℕ) → IsSeated p sheet i 0 0 o place until from change →
-      IsSeated p sheet i 0 0 o (place_of (set places o place) o) (number_of (set untils o until) o)
-      (number_of (set froms o from) o) (number_of (set changes o change) o)
+  pub settled_at : (p : PolicyMeaning) (sheet : SheetParts) (i : ℕ) → IsSeated p sheet i 0 0 o place until change →
+      IsSeated p sheet i 0 0 o (place_of (set places o place) o) (number_of (set untils o until) o) (number_of (set changes o change) o)
   settled_at p sheet i h = all_same (IsSeated p sheet i 0 0 o) h
 
   pub settled_others : (p : PolicyMeaning) (sheet : SheetParts) (i k : ℕ) → k ≢ o →
-      IsSeated p sheet i 0 0 k (place_of places k) (number_of untils k) (number_of froms k) (number_of changes k) →
-      IsSeated p sheet i 0 0 k (place_of (set places o place) k) (number_of (set untils o until) k)
-      (number_of (set froms o from) k) (number_of (set changes o change) k)
+      IsSeated p sheet i 0 0 k (place_of places k) (number_of untils k) (number_of changes k) →
+      IsSeated p sheet i 0 0 k (place_of (set places o place) k) (number_of (set untils o until) k) (number_of (set changes o change) k)
   settled_others p sheet i k ne h = all_other (IsSeated p sheet i 0 0 k) k ne h
 
   pub settled_near : (sheet : SheetParts) → o < length sheet.tasks → AreNear sheet places → IsNear (task_at sheet o) place → AreNear sheet (set places o place)

@@ -1,5 +1,5 @@
-use Rattle.std.proofs.Common.{◌≡◌, ◌≢◌, ℕ, zero, suc, ◌+◌, ◌*◌, ◌^◌, ◌≤◌, ◌<◌, ◌==◌, Bool, true, false, cond, List, length, set, ap, inl, inr, arith}
-use Rattle.std.proofs.lemmas.Bool.{cases_lt}
+use Rattle.std.proofs.Common.{◌≡◌, ◌≢◌, ℕ, zero, suc, ◌+◌, ◌*◌, ◌^◌, ◌≤◌, ◌<◌, ◌==◌, Bool, true, false, cond, List, length, set, ap, inl, inr, arith, sym, ◌∙◌, eq-eqb}
+use Rattle.std.proofs.lemmas.Bool.{cases_eq, cases_lt}
 use Rattle.std.proofs.lemmas.List.{get_or-set_same, get_or-set_other}
 use Rattle.std.proofs.Math.Nat.{mul-le-mul_left}
 use Rattle.lists.specs.Sums.{sum_below}
@@ -59,6 +59,19 @@ module _ (p : PolicyMeaning) (sheet : SheetParts) (i : ℕ) (places : List Place
         (λ k l ne. ap (part_of p sheet i k) (get_or-set_other places o k place no_place ne)),
     ap (part_of p sheet i o) (get_or-set_same places o place no_place (omega (arith, near.count))),
   )
+
+-- what a task asks for, by the kind of its cap
+pub part_is : (p : PolicyMeaning) (sheet : SheetParts) (i o : ℕ) (place : Place) (cap : Cap) (cost count : ℕ) → cost ≡ (task_at sheet o).cost →
+    (i ≢ o → cap ≡ p.cap sheet i o 0) → count ≡ cond (o == i) place.count (counted_of cap place) → cost * count ≡ part_of p sheet i o place
+part_is p sheet i o place cap cost count ec kind e =
+    let other = counted_of (p.cap sheet i o 0) place in
+    let same : cond (o == i) place.count (counted_of cap place) ≡ cond (o == i) place.count other = elim (cases_eq i o) [
+      | inl q ↦
+          let own : (o == i) ≡ true = eq-eqb o i (sym q) in
+          ap (λ (b : Bool). cond b place.count (counted_of cap place)) own ∙ sym (ap (λ (b : Bool). cond b place.count other) own)
+      | inr ne ↦ ap (λ (c : Cap). cond (o == i) place.count (counted_of c place)) (kind ne)
+    ] in
+    ap (λ (w : ℕ). w * count) ec ∙ ap (λ (w : ℕ). (task_at sheet o).cost * w) (e ∙ same)
 
 counted_le : (c : Cap) (place : Place) → counted_of c place ≤ place.end.value
 counted_le Nothing place = omega arith

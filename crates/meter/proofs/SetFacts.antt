@@ -17,13 +17,3 @@ set_two P xs ys o x d y e b c new k old =
     let first = set_one (λ k v. P k v y) xs o x d b new o (λ ne. absurd (ne refl)) in
     set_one (λ k w. P k (slice_index_or (set xs o x) k d) w) ys o y e c first k
     (λ ne. subst (λ v. P k v (slice_index_or ys k e)) (sym (get_or-set_other xs o k x d ne)) (old ne))
-
-pub set_three : {A B C : Type 0} (P : ℕ → A → B → C → Type 0) (xs : List A) (ys : List B) (zs : List C) (o : ℕ) (x d : A) (y e : B) (z f : C) →
-    o < length xs → o < length ys → o < length zs → P o x y z →
-    (k : ℕ) → (k ≢ o → P k (slice_index_or xs k d) (slice_index_or ys k e) (slice_index_or zs k f)) →
-    P k (slice_index_or (set xs o x) k d) (slice_index_or (set ys o y) k e) (slice_index_or (set zs o z) k f)
-set_three P xs ys zs o x d y e z f b c h new k old =
-    let first = set_two (λ k v w. P k v w z) xs ys o x d y e b c new o (λ ne. absurd (ne refl)) in
-    set_one (λ k u. P k (slice_index_or (set xs o x) k d) (slice_index_or (set ys o y) k e) u) zs o z f h first k
-    (λ ne. subst (λ v. P k v (slice_index_or (set ys o y) k e) (slice_index_or zs k f)) (sym (get_or-set_other xs o k x d ne))
-    (subst (λ w. P k (slice_index_or xs k d) w (slice_index_or zs k f)) (sym (get_or-set_other ys o k y e ne)) (old ne)))

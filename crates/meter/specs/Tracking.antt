@@ -1,5 +1,5 @@
 -- Where all tasks of a sheet stand.
-use Rattle.std.specs.Prelude.{◌≡◌, ◌≢◌, ℕ, ◌+◌, ◌<◌, ◌≤◌, List, length}
+use Rattle.std.specs.Prelude.{◌≡◌, ◌≢◌, ℕ, ◌+◌, ◌-◌, ◌<◌, ◌≤◌, min, List, length}
 use Rattle.lists.specs.Sums.{sum_below}
 use Rattle.curve.specs.Stairs.{IsStair}
 use Rattle.curve.specs.declared.prefix.Stair.{Stair}
@@ -13,22 +13,16 @@ use Rattle.meter.specs.Soonests.{number_of}
 use Rattle.meter.specs.Changes.{IsCounted}
 use Rattle.meter.specs.Places.{place_of, asked_of, IsNear, AreNear}
 
--- a place, and the ends at which its stair begins and ends
-pub record IsKeyed (task : Task) (place : Place) (until from : ℕ) : Type 0 where
+-- a place, and the end at which its stair ends
+pub record IsKeyed (task : Task) (place : Place) (until : ℕ) : Type 0 where
   pub near : IsNear task place
-  pub until_is : until + task.jitter ≡ place.end.until
-  pub from_is : from + place.end.from ≡ 5000000000 + task.jitter
-
--- one number for each task
-pub record AreFull (sheet : SheetParts) (untils froms : List ℕ) : Type 0 where
-  pub untils_count : length untils ≡ length sheet.tasks
-  pub froms_count : length froms ≡ length sheet.tasks
+  pub until_is : until ≡ min (place.end.until - task.jitter) 2000000000
 
 -- the places of all tasks, their ends, and what they ask for together
-pub record IsTracking (p : PolicyMeaning) (sheet : SheetParts) (i : ℕ) (places : List Place) (untils froms : List ℕ) (sum : ℕ) : Type 0 where
+pub record IsTracking (p : PolicyMeaning) (sheet : SheetParts) (i : ℕ) (places : List Place) (untils : List ℕ) (sum : ℕ) : Type 0 where
   pub count : length places ≡ length sheet.tasks
-  pub full : AreFull sheet untils froms
-  pub each : (o : ℕ) → o < length sheet.tasks → IsKeyed (task_at sheet o) (place_of places o) (number_of untils o) (number_of froms o)
+  pub full : length untils ≡ length sheet.tasks
+  pub each : (o : ℕ) → o < length sheet.tasks → IsKeyed (task_at sheet o) (place_of places o) (number_of untils o)
   pub sum_is : sum ≡ sum_below (asked_of p sheet i places) (length sheet.tasks)
 
 -- a stair of task o begins no later than the end x, and ends later
@@ -60,7 +54,7 @@ abbrev pub KeepEnds : List Place → List Place → Type 0
 KeepEnds before after = (k : ℕ) → (place_of after k).end ≡ (place_of before k).end
 
 abbrev pub IsTrackingAt : PolicyMeaning → SheetParts → ℕ → Tracks → Type 0
-IsTrackingAt p sheet i t = IsTracking p sheet i t.places.items t.untils t.froms t.sum
+IsTrackingAt p sheet i t = IsTracking p sheet i t.places.items t.untils t.sum
 
 -- only the stair of task o was moved, to the end x
 pub record IsEndMoved (p : PolicyMeaning) (sheet : SheetParts) (i x o : ℕ) (before after : Tracks) : Type 0 where
@@ -76,6 +70,7 @@ pub record IsRecounted (p : PolicyMeaning) (sheet : SheetParts) (i a o : ℕ) (b
   pub count : length after.changes ≡ length before.changes
   pub at : IsCountedAt p sheet i a after.places.items after.changes o
   pub others : (k b : ℕ) → k ≢ o → IsCountedAt p sheet i b before.places.items before.changes k → IsCountedAt p sheet i b after.places.items after.changes k
+  pub kept : (k : ℕ) → k ≢ o → number_of after.changes k ≡ number_of before.changes k
   pub ends : KeepEnds before.places.items after.places.items
 
 -- all stairs were moved to the end x
@@ -94,17 +89,17 @@ pub record AreRecounted (p : PolicyMeaning) (sheet : SheetParts) (i a : ℕ) (be
 -- each task has a place
 pub record IsReady (sheet : SheetParts) (t : Tracks) : Type 0 where
   pub near : AreNear sheet t.places.items
-  pub full : AreFull sheet t.untils t.froms
+  pub full : length t.untils ≡ length sheet.tasks
   pub changes : length t.changes ≡ length sheet.tasks
 
 -- all that stands of one task at offset a and end x
-pub record IsSeated (p : PolicyMeaning) (sheet : SheetParts) (i a x o : ℕ) (place : Place) (until from change : ℕ) : Type 0 where
-  pub keyed : IsKeyed (task_at sheet o) place until from
+pub record IsSeated (p : PolicyMeaning) (sheet : SheetParts) (i a x o : ℕ) (place : Place) (until change : ℕ) : Type 0 where
+  pub keyed : IsKeyed (task_at sheet o) place until
   pub ended : IsStair (task_at sheet o).curve place.end (x + (task_at sheet o).jitter)
   pub counted : IsCounted p sheet i a o place.count change
 
 abbrev pub IsSeatedAt : PolicyMeaning → SheetParts → ℕ → ℕ → ℕ → Tracks → ℕ → Type 0
-IsSeatedAt p sheet i a x t o = IsSeated p sheet i a x o (place_of t.places.items o) (number_of t.untils o) (number_of t.froms o) (number_of t.changes o)
+IsSeatedAt p sheet i a x t o = IsSeated p sheet i a x o (place_of t.places.items o) (number_of t.untils o) (number_of t.changes o)
 
 -- only task o was seated, at offset 0 and end 0
 pub record IsSettled (p : PolicyMeaning) (sheet : SheetParts) (i o : ℕ) (before after : Tracks) : Type 0 where

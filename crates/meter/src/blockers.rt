@@ -101,6 +101,9 @@ pub fn keep_blocker<P: Policy, M: Preemption>(
 {
     // for the proof: the sheet is valid
     let _valid = sheet.len();
+    if before.block == 0 {
+        return before;
+    }
     if block_at::<P, M>(sheet, i, a, before.task, begun) == before.block {
         return before;
     }

@@ -3,18 +3,15 @@ ghost use Rattle.std.specs.Prelude.{◌≡◌, ◌≢◌, ◌≤◌, ◌<◌, le
 ghost use Rattle.lists.specs.Limits.{greatest_number};
 ghost use Rattle.lists.specs.Searches.{IsLeast, IsLeastTo};
 ghost use Rattle.meter.specs.CapNumbers.{reach_of, reach_at};
-ghost use Rattle.meter.specs.Changes.{IsChange, IsCounted};
+ghost use Rattle.meter.specs.Changes.{IsCounted};
 
+use crate::soonest::NEVER;
 use lists::limits::GREATEST_NUMBER;
 use policy::{Cap, Policy};
-use search_space::compared;
 use task_sheet::Sheet;
 
 /// The last offset that is looked at, in ticks.
 const LAST: u64 = GREATEST_NUMBER;
-
-/// An offset past them all, in ticks.
-const NEVER: u64 = 2 * GREATEST_NUMBER;
 
 /// The number of a task at an offset, and since when it is another.
 #[derive(Clone, Copy, Debug, PartialEq, Eq)]
@@ -74,64 +71,62 @@ fn least_between<P: Policy>(sheet: &Sheet, i: u32, o: u32, e: u64, from: u64, to
     high
 }
 
-/// The least offset at which the cap's number is `e` or more, where it is less at `a`.
-fn least_reach<P: Policy>(sheet: &Sheet, i: u32, o: u32, e: u64, a: u64) -> Option<u64>
+/// The least offset at which the cap's number is `e` or more, where it is `reach` at `a`.
+fn least_reach<P: Policy>(sheet: &Sheet, i: u32, o: u32, e: u64, a: u64, reach: u64) -> Option<u64>
     requires i { i < length sheet.now.tasks }
     requires o { o < length sheet.now.tasks }
     requires other { i ≢ o }
     requires offset { a ≤ greatest_number }
-    requires less { reach_at P.meaning sheet.now i o a < e }
+    requires reach { reach ≡ reach_at P.meaning sheet.now i o a }
+    requires less { reach < e }
     ensures { IsLeastTo (λ b. e ≤ reach_at P.meaning sheet.now i o b) greatest_number result }
 {
     // for the proof: the sheet is valid
     let _valid = sheet.len();
-    if cap_reach::<P>(sheet, i, o, LAST) < e {
-        return None;
-    }
     // Caps that grow with the offset reach it here.
-    let guess = a.saturating_add(e - cap_reach::<P>(sheet, i, o, a));
+    let guess = a.saturating_add(e - reach);
     if guess <= LAST
         && cap_reach::<P>(sheet, i, o, guess) >= e
         && cap_reach::<P>(sheet, i, o, guess - 1) < e
     {
         return Some(guess);
     }
+    if cap_reach::<P>(sheet, i, o, LAST) < e {
+        return None;
+    }
     Some(least_between::<P>(sheet, i, o, e, a, LAST))
 }
 
-/// The least later offset of task `i` at which the number of task `o` is another than at `a`.
-fn next_change<P: Policy>(sheet: &Sheet, i: u32, o: u32, a: u64) -> Option<u64>
+/// The number of task `i` itself at an offset, and the next offset with another.
+fn own_counting<P: Policy>(sheet: &Sheet, i: u32, a: u64) -> Counted
     requires i { i < length sheet.now.tasks }
-    requires o { o < length sheet.now.tasks }
     requires offset { a < greatest_number }
-    ensures { IsLeastTo (IsChange P.meaning sheet.now i a o) greatest_number result }
+    ensures counted { IsCounted P.meaning sheet.now i a i result.count result.change }
+    ensures high { result.change ≤ 2000000000 }
 {
-    if o == i {
-        next_own_change::<P>(sheet, i, a)
-    } else {
-        next_other_change::<P>(sheet, i, o, a)
+    let task = sheet.task(i);
+    let stair = task.curve.stair(a + 1 + task.jitter);
+    Counted {
+        count: stair.value,
+        change: (stair.until - 1 - task.jitter).min(NEVER),
     }
 }
 
-fn next_own_change<P: Policy>(sheet: &Sheet, i: u32, a: u64) -> Option<u64>
-    requires i { i < length sheet.now.tasks }
-    requires offset { a < greatest_number }
-    ensures { IsLeastTo (IsChange P.meaning sheet.now i a i) greatest_number result }
-{
-    let task = sheet.task(i);
-    let next = task.curve.stair(a + 1 + task.jitter).until - 1 - task.jitter;
-    if next <= LAST { Some(next) } else { None }
-}
-
-fn next_other_change<P: Policy>(sheet: &Sheet, i: u32, o: u32, a: u64) -> Option<u64>
+/// The same of another task.
+fn other_counting<P: Policy>(sheet: &Sheet, i: u32, o: u32, a: u64) -> Counted
     requires i { i < length sheet.now.tasks }
     requires o { o < length sheet.now.tasks }
     requires other { i ≢ o }
     requires offset { a < greatest_number }
-    ensures { IsLeastTo (IsChange P.meaning sheet.now i a o) greatest_number result }
+    ensures counted { IsCounted P.meaning sheet.now i a o result.count result.change }
+    ensures high { result.change ≤ 2000000000 }
 {
-    let stair = sheet.task(o).curve.stair(cap_reach::<P>(sheet, i, o, a));
-    least_reach::<P>(sheet, i, o, stair.until, a)
+    let reach = cap_reach::<P>(sheet, i, o, a);
+    let stair = sheet.task(o).curve.stair(reach);
+    Counted {
+        count: stair.value,
+        change: least_reach::<P>(sheet, i, o, stair.until, a, reach).unwrap_or(NEVER),
+    }
 }
 
 /// The number of task `o` that tells the offsets of task `i` apart, at offset `a` in ticks, and
@@ -142,11 +137,13 @@ pub fn counting<P: Policy>(sheet: &Sheet, i: u32, o: u32, a: u64) -> Counted
     requires offset { a < greatest_number }
     ensures counted { IsCounted P.meaning sheet.now i a o result.count result.change }
     ensures bound { result.count ≤ 5000000000000000 }
+    ensures high { result.change ≤ 2000000000 }
 {
     // for the proof: the sheet is valid
     let _valid = sheet.len();
-    Counted {
-        count: compared::<P>(sheet, i, a, o),
-        change: next_change::<P>(sheet, i, o, a).unwrap_or(NEVER),
+    if o == i {
+        own_counting::<P>(sheet, i, a)
+    } else {
+        other_counting::<P>(sheet, i, o, a)
     }
 }

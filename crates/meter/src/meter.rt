@@ -33,8 +33,8 @@ const GROUND: Place = Place {
 
 /// The demand of a job, in ticks, at an offset and an end that can be moved.
 ///
-/// A move costs what the tasks cost whose curves rise on the way, and one look at each sixteenth
-/// task.
+/// A move costs what the tasks cost whose curves rise on the way; where the end falls, one look at
+/// each task.
 #[derive(Drop)]
 pub struct Meter<'a, P: Policy, M: Preemption> {
     sheet: &'a Sheet,
@@ -77,9 +77,8 @@ impl<'a, P: Policy, M: Preemption> Meter<'a, P, M> {
         let count = sheet.len() as usize;
         let mut tracks = Tracks {
             places: vec![in alloc; GROUND; count]?,
-            untils: Soonest::new(alloc, count, 0)?,
-            froms: Soonest::new(alloc, count, 0)?,
-            changes: Soonest::new(alloc, count, 0)?,
+            untils: Soonest::new(alloc, count)?,
+            changes: Soonest::new(alloc, count)?,
             sum: 0,
         };
         let begun = begun_segments::<M>(alloc, sheet)?;

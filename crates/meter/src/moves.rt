@@ -5,12 +5,10 @@ ghost use Rattle.meter.specs.Places.{place_of};
 ghost use Rattle.meter.specs.Tracking.{IsTrackingAt, HasBegun, IsOpen, AreEnded, IsEndMoved, IsRecounted, AreMoved, AreRecounted, AreCounted, IsReady, IsSettled, AreSeated};
 
 use crate::changes::counting;
+use crate::soonest::NEVER;
 use crate::tracks::{Place, Tracks, part, put};
 use policy::Policy;
 use task_sheet::Sheet;
-
-/// A far end, in ticks, from which the begins of stairs are counted back.
-const FAR: u64 = 5_000_000_000;
 
 /// Moves the stair of task `o` to the end `x`.
 fn move_end<P: Policy>(sheet: &Sheet, i: u32, o: u32, x: u64, tracks: &mut Tracks)
@@ -28,8 +26,9 @@ fn move_end<P: Policy>(sheet: &Sheet, i: u32, o: u32, x: u64, tracks: &mut Track
         count: before.count,
     };
     tracks.sum = put::<P>(sheet, i, o, place, &mut tracks.places, tracks.sum);
-    tracks.untils.set(o as usize, end.until - task.jitter);
-    tracks.froms.set(o as usize, FAR + task.jitter - end.from);
+    tracks
+        .untils
+        .set(o as usize, (end.until - task.jitter).min(NEVER));
 }
 
 /// Moves the stairs that end by `x` to that end, where none begins later.
@@ -41,12 +40,26 @@ fn rise<P: Policy>(sheet: &Sheet, i: u32, x: u64, tracks: &mut Tracks)
         tracks.old.places.items k).end }
     ensures { AreMoved P.meaning sheet.now i x tracks.old tracks.new }
 {
-    let count = sheet.len() as usize;
-    let mut o = tracks.untils.next_from(0, x);
-    while o < count {
-        move_end::<P>(sheet, i, o as u32, x, tracks);
-        o = tracks.untils.next_from(o + 1, x);
+    while tracks.untils.least() <= x {
+        let o = tracks.untils.first();
+        move_end::<P>(sheet, i, o, x, tracks);
     }
+}
+
+/// Moves the stair of task `o` back to the end `x`, which it does not end by.
+fn move_back<P: Policy>(sheet: &Sheet, i: u32, o: u32, x: u64, tracks: &mut Tracks)
+    requires i { i < length sheet.now.tasks }
+    requires o { o < length sheet.now.tasks }
+    requires end { x ≤ greatest_number }
+    requires tracking { IsTrackingAt P.meaning sheet.now i tracks.old }
+    requires still { IsOpen sheet.now x o (place_of tracks.old.places.items o).end }
+    ensures { IsEndMoved P.meaning sheet.now i x o tracks.old tracks.new }
+{
+    let before = tracks.places[o as usize];
+    if before.end.from <= x + sheet.task(o).jitter {
+        return;
+    }
+    move_end::<P>(sheet, i, o, x, tracks);
 }
 
 /// Moves the stairs that begin after `x` back to that end, where none ends by it.
@@ -58,12 +71,8 @@ fn fall<P: Policy>(sheet: &Sheet, i: u32, x: u64, tracks: &mut Tracks)
         tracks.old.places.items k).end }
     ensures { AreMoved P.meaning sheet.now i x tracks.old tracks.new }
 {
-    let count = sheet.len() as usize;
-    let before = FAR - 1 - x;
-    let mut o = tracks.froms.next_from(0, before);
-    while o < count {
-        move_end::<P>(sheet, i, o as u32, x, tracks);
-        o = tracks.froms.next_from(o + 1, before);
+    for o in 0..sheet.len() {
+        move_back::<P>(sheet, i, o, x, tracks);
     }
 }
 
@@ -98,11 +107,9 @@ pub fn advance<P: Policy>(sheet: &Sheet, i: u32, a: u64, b: u64, tracks: &mut Tr
         tracks.old.changes }
     ensures { AreRecounted P.meaning sheet.now i b tracks.old tracks.new }
 {
-    let count = sheet.len() as usize;
-    let mut o = tracks.changes.next_from(0, b);
-    while o < count {
-        recount::<P>(sheet, i, o as u32, b, tracks);
-        o = tracks.changes.next_from(o + 1, b);
+    while tracks.changes.least() <= b {
+        let o = tracks.changes.first();
+        recount::<P>(sheet, i, o, b, tracks);
     }
 }
 
@@ -159,8 +166,9 @@ fn settle<P: Policy>(sheet: &Sheet, i: u32, o: u32, tracks: &mut Tracks)
         count: counted.count,
     };
     tracks.places[o as usize] = place;
-    tracks.untils.set(o as usize, end.until - task.jitter);
-    tracks.froms.set(o as usize, FAR + task.jitter - end.from);
+    tracks
+        .untils
+        .set(o as usize, (end.until - task.jitter).min(NEVER));
     tracks.changes.set(o as usize, counted.change);
     tracks.sum += part::<P>(sheet, i, o, &place);
 }

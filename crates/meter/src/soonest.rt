@@ -1,18 +1,26 @@
-//! Numbers, and which of them come first.
-ghost use Rattle.std.specs.Prelude.{◌≡◌, ◌≤◌, ◌<◌, ℕ, length, replicate, set, IfOk, slice_index_or};
-ghost use Rattle.meter.specs.Soonests.{IsNextFrom, IsLeastOf};
+//! Numbers, and which of them comes first.
+ghost use Rattle.std.specs.Prelude.{◌≡◌, ◌≤◌, ◌<◌, ◌+◌, ◌*◌, ◌/◌, ◌%◌, length, replicate, set, IfOk};
+ghost use Rattle.meter.specs.Soonests.{AreNodesBut, IsRenewed, IsSoonest as IsTreeOver, IsFirst, IsLeastNumber, IsLeastOf};
 
+use lists::limits::GREATEST_NUMBER;
 use std::alloc::{AllocError, Global};
 use std::marker::Model;
 
-/// How many numbers a block has.
-const BLOCK: usize = 16;
+/// A number past all that are asked for.
+pub const NEVER: u64 = 2 * GREATEST_NUMBER;
 
-/// Numbers, with one for each block of them that none of the block is below.
+/// How many places a key tells apart.
+///
+/// A key is a number and its place, so that the sooner of two is their minimum, which takes no
+/// branch that a processor would guess wrong.
+const PLACES: u64 = 1024;
+
+/// Numbers up to `NEVER`, with a tree of their keys: its second half are the keys, and each node
+/// before is the lesser of the two below it.
 #[derive(Debug, Drop)]
 pub struct Soonest {
     numbers: Vec<u64>,
-    blocks: Vec<u64>,
+    tree: Vec<u64>,
 }
 
 impl Model for Soonest {
@@ -24,75 +32,88 @@ impl Model for Soonest {
 
     ghost view = { λ s. s.numbers.items };
 
-    ghost invariant = { λ s. IsSoonest s.numbers.items s.blocks.items };
+    ghost invariant = { λ s. IsSoonest s.numbers.items s.tree.items };
 }
 
-/// A number that none of these is below: the least of them, where there is one.
-fn least_of(numbers: &[u64], from: usize, to: usize) -> u64
-    requires { to ≤ length numbers.now }
-    ensures { (k : ℕ) → from ≤ k → k < to → result ≤ slice_index_or numbers.now k 0 }
+/// The other one below the same node.
+fn sibling(at: usize) -> usize
+    requires { 1 < at }
+    ensures { result + at ≡ 4 * (at / 2) + 1 }
 {
-    let mut least = u64::MAX;
-    for k in from..to {
-        least = least.min(numbers[k]);
+    if at % 2 == 0 { at + 1 } else { at - 1 }
+}
+
+/// Puts another key on a leaf, and renews the nodes above it.
+fn renew(tree: &mut [u64], leaf: usize, key: u64)
+    requires leaf { length tree.old ≤ 2 * leaf }
+    requires within { leaf < length tree.old }
+    requires even { length tree.old % 2 ≡ 0 }
+    requires nodes { AreNodesBut tree.old 1 }
+    ensures { IsRenewed tree.old leaf key tree.new }
+{
+    tree[leaf] = key;
+    let mut at = leaf;
+    let mut least = key;
+    while at > 1 {
+        least = least.min(tree[sibling(at)]);
+        at /= 2;
+        tree[at] = least;
     }
-    least
+}
+
+/// Puts the keys of so many numbers 0 on the leaves of a tree of zeros.
+fn plant(tree: &mut [u64], count: usize)
+    requires some { 0 < count }
+    requires few { count ≤ 1000 }
+    requires zeros { tree.old ≡ replicate (2 * count) 0 }
+    ensures { IsTreeOver (replicate count 0) tree.new }
+{
+    for k in 0..count {
+        renew(tree, count + k, k as u64);
+    }
 }
 
 impl Soonest {
-    /// So many times this number.
-    pub fn new(alloc: Global, count: usize, number: u64) -> Result<Soonest, AllocError>
-        requires { count ≤ 1000000 }
-        ensures { IfOk result (λ s. s ≡ replicate count number) }
+    /// So many times the number 0.
+    pub fn new(alloc: Global, count: usize) -> Result<Soonest, AllocError>
+        requires some { 0 < count }
+        requires few { count ≤ 1000 }
+        ensures { IfOk result (λ s. s ≡ replicate count 0) }
     {
-        let numbers = vec![in alloc; number; count]?;
-        let blocks = vec![in alloc; number; count / BLOCK + 1]?;
-        Ok(Soonest { numbers, blocks })
+        let numbers = vec![in alloc; 0; count]?;
+        let mut tree = vec![in alloc; 0; 2 * count]?;
+        plant(&mut tree, count);
+        Ok(Soonest { numbers, tree })
     }
 
     pub fn set(&mut self, k: usize, number: u64)
-        requires { k < length self.old }
+        requires place { k < length self.old }
+        requires number { number ≤ 2000000000 }
         ensures { self.new ≡ set self.old k number }
     {
-        let block = k / BLOCK;
-        let begin = block * BLOCK;
+        let leaf = self.numbers.len() + k;
         self.numbers[k] = number;
-        let end = self.numbers.len().min(begin + BLOCK);
-        self.blocks[block] = least_of(&self.numbers, begin, end);
+        renew(&mut self.tree, leaf, number * PLACES + k as u64);
     }
 
-    /// The first place from `k` on whose number is at most `x`; the count where there is none.
-    pub fn next_from(&self, k: usize, x: u64) -> usize
-        requires { k ≤ length self.now }
-        ensures { IsNextFrom self.now k x result }
+    /// The least of the numbers.
+    pub fn least(&self) -> u64
+        ensures { IsLeastNumber self.now result }
     {
-        let mut at = k;
-        while at < self.numbers.len() {
-            if self.blocks[at / BLOCK] > x {
-                at = self.numbers.len().min((at / BLOCK + 1) * BLOCK);
-            } else if self.numbers[at] > x {
-                at += 1;
-            } else {
-                return at;
-            }
-        }
-        at
+        self.tree[1] / PLACES
+    }
+
+    /// A place at which the least number stands.
+    pub fn first(&self) -> u32
+        ensures { IsFirst self.now result }
+    {
+        (self.tree[1] % PLACES) as u32
     }
 
     /// The least of the numbers, where it is below the bound; else the bound.
     pub fn least_below(&self, bound: u64) -> u64
         ensures { IsLeastOf self.now bound result }
     {
-        let mut least = bound;
-        let mut at = 0;
-        while at < self.numbers.len() {
-            if self.blocks[at / BLOCK] >= least {
-                at = self.numbers.len().min((at / BLOCK + 1) * BLOCK);
-            } else {
-                least = least.min(self.numbers[at]);
-                at += 1;
-            }
-        }
-        least
+        self.least().min(bound)
     }
 }

@@ -10,7 +10,7 @@ use Rattle.search_space.specs.PointLaws.{AcrossGap}
 use Rattle.solver.specs.Laws.{Laws}
 
 -- of so many ticks no more are supplied
-supplied_within : (sbf : ℕ → ℕ) → sbf 0 ≡ 0 → ((d : ℕ) → sbf (d + 1) ≤ sbf d + 1) → (d : ℕ) → sbf d ≤ d
+pub supplied_within : (sbf : ℕ → ℕ) → sbf 0 ≡ 0 → ((d : ℕ) → sbf (d + 1) ≤ sbf d + 1) → (d : ℕ) → sbf d ≤ d
 supplied_within sbf starts steps zero = omega (arith, starts)
 supplied_within sbf starts steps (suc d) = omega (arith, supplied_within sbf starts steps d, rw add-one at (steps d))
 

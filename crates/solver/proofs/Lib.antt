@@ -3,6 +3,8 @@ pub mod Rises
 pub mod Jumps
 pub mod WindowFacts
 pub mod LoadFacts
+pub mod CeilingFacts
+pub mod GroupFacts
 pub mod Listing
 pub mod Chain
 pub mod Least

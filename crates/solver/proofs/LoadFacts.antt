@@ -28,10 +28,10 @@ use Rattle.solver.specs.declared.load.Line.{Line}
 use Rattle.solver.specs.Loads.{scale, IsBehind, HasRisen, whole_of, IsUnderWhole, IsUnderAt, IsUnderTo, IsUnderCapped, IsSmallLine}
 use Rattle.solver.specs.Loads.{IsBelowCrossing, IsBelowWindows, IsBelowEnds}
 
-div_le : (q h : ℕ) → 1 ≤ h → h * (q / h) ≤ q
+pub div_le : (q h : ℕ) → 1 ≤ h → h * (q / h) ≤ q
 div_le q h some = omega arith
 
-div_up : (q h : ℕ) → 0 < h → q ≤ h * ((q + h - 1) / h)
+pub div_up : (q h : ℕ) → 0 < h → q ≤ h * ((q + h - 1) / h)
 div_up q h some = omega arith
 
 -- of a line that rises to its top at the horizon
@@ -117,7 +117,7 @@ pub load_high : (t : Task) → IsTask t → t.cost * alpha_of t.curve t.curve.ho
 load_high t is = omega (arith, mul-le-mul_left t.cost (top_high t.curve is.curve), mul-le-mul_right greatest_value is.cost_high)
 
 -- a line of a curve, as many times as a job costs, in parts of a tick
-parts_line : (h cost top y a d rate : ℕ) → 1 ≤ h → rate ≡ cost * top * scale / h → top * y ≤ h * (a + d) → rate * y ≤ (cost * a + cost * d) * scale
+pub parts_line : (h cost top y a d rate : ℕ) → 1 ≤ h → rate ≡ cost * top * scale / h → top * y ≤ h * (a + d) → rate * y ≤ (cost * a + cost * d) * scale
 parts_line h cost top y a d rate some e line = elim (cases_lt ((cost * a + cost * d) * scale) (rate * y)) [
   | inr le ↦ le
   | inl more ↦
@@ -161,44 +161,50 @@ module _ (part : ℕ → ℕ → ℕ) (n x : ℕ) (line more both : Line) (fixed
 pub under_all : (part : ℕ → ℕ → ℕ) (n all x : ℕ) (line : Line) → n ≡ all → IsUnderTo part n x line → IsUnderTo part all x line
 under_all part n all x line e = subst (λ (w : ℕ). IsUnderTo part w x line) e
 
--- a supply of a tick a tick that has not caught up
-pub caught_up : (line : Line) (wanted l bound : ℕ) → line.loss < line.fixed + wanted * scale → line.rate < scale →
-    bound ≡ (line.fixed + wanted * scale - line.loss) / (scale - line.rate) → HasRisen line l wanted l → bound ≤ l
-caught_up line wanted l bound some slow e risen = elim (cases_lt l bound) [
+-- so many ticks to spare, besides the loss
+abbrev pub down_of : Line → ℕ → ℕ
+down_of line spare = line.loss + spare * scale
+
+-- a supply that has not caught up
+pub caught_up : (line : Line) (wanted l now spare climb bound : ℕ) → down_of line spare < line.fixed + wanted * scale → line.rate < climb →
+    bound ≡ (line.fixed + wanted * scale - down_of line spare) / (climb - line.rate) → now * scale ≤ climb * l + spare * scale →
+    HasRisen line l wanted now → bound ≤ l
+caught_up line wanted l now spare climb bound some slow e over risen = elim (cases_lt l bound) [
   | inr le ↦ le
   | inl more ↦
-      let d = scale - line.rate in
-      let up = line.fixed + wanted * scale - line.loss in
-      let split : scale ≡ line.rate + d = omega (arith, slow) in
+      let d = climb - line.rate in
+      let up = line.fixed + wanted * scale - down_of line spare in
+      let split : climb ≡ line.rate + d = omega (arith, slow) in
       let under = div_le up d (omega (arith, slow)) in
-      absurd (omega (arith, mul-le-mul_left d more, under, ap (λ (w : ℕ). d * w) e, risen, ap (λ (w : ℕ). w * l) split, some))
+      absurd (omega (arith, mul-le-mul_left d more, under, ap (λ (w : ℕ). d * w) e, risen, over, ap (λ (w : ℕ). w * l) split, some))
 ]
 
-pub never_up : (line : Line) (wanted l : ℕ) → line.loss < line.fixed + wanted * scale → scale ≤ line.rate → HasRisen line l wanted l → ⊥
-never_up line wanted l some fast risen = omega (arith, some, risen, mul-le-mul_right l fast)
+pub never_up : (line : Line) (wanted l now spare climb : ℕ) → down_of line spare < line.fixed + wanted * scale → climb ≤ line.rate →
+    now * scale ≤ climb * l + spare * scale → HasRisen line l wanted now → ⊥
+never_up line wanted l now spare climb some fast over risen = omega (arith, some, risen, over, mul-le-mul_right l fast)
 
 module _ (p : PolicyMeaning) (m : CutMeaning) (sheet : SheetParts) (i : ℕ) where
   -- the delay is the same in every window
-  pub window_risen : (x horizon wanted bound : ℕ) (line : Line) → wanted ≡ window_need_of p m sheet i x →
+  pub window_risen : (sbf : ℕ → ℕ) (x horizon wanted bound : ℕ) (line : Line) → wanted ≡ window_need_of p m sheet i x →
       IsUnderTo (class_part_of p sheet i) (length sheet.tasks) x line →
-      IsBelowCrossing line wanted horizon bound → IsBelowWindows p m sheet i x horizon bound
+      IsBelowCrossing sbf line wanted horizon bound → IsBelowWindows p m sbf sheet i x horizon bound
   unfolding window_need_of
-  window_risen x horizon wanted bound line e under crossing l from to enough = crossing l to (λ below. omega (arith, under l from below, e, enough))
+  window_risen sbf x horizon wanted bound line e under crossing l from to enough = crossing l to (λ below. omega (arith, under l from below, e, enough))
 
-  pub windows_both : (x horizon low high both : ℕ) → both ≤ max low high → IsBelowWindows p m sheet i x horizon low →
-      IsBelowWindows p m sheet i x horizon high → IsBelowWindows p m sheet i x horizon both
-  windows_both x horizon low high both le first second l from to enough = omega (arith, le, first l from to enough, second l from to enough)
+  pub windows_both : (sbf : ℕ → ℕ) (x horizon low high both : ℕ) → both ≤ max low high → IsBelowWindows p m sbf sheet i x horizon low →
+      IsBelowWindows p m sbf sheet i x horizon high → IsBelowWindows p m sbf sheet i x horizon both
+  windows_both sbf x horizon low high both le first second l from to enough = omega (arith, le, first l from to enough, second l from to enough)
 
   -- no window before the next jump is one
-  pub windows_skipped : (sbf : ℕ → ℕ) (window next horizon bound k : ℕ) → ((d : ℕ) → sbf d ≤ d) → ((j : ℕ) → j < window → IsWindow p m sbf sheet i j → ⊥) →
+  pub windows_skipped : (sbf : ℕ → ℕ) (window next horizon bound k : ℕ) → ((j : ℕ) → j < window → IsWindow p m sbf sheet i j → ⊥) →
       ((j n : ℕ) → j ≤ n → window_need_of p m sheet i j ≤ window_need_of p m sheet i n) →
       ((d : ℕ) → window_need_of p m sheet i window ≤ sbf d → next ≤ d) → bound ≤ horizon + 1 →
-      IsBelowWindows p m sheet i window horizon bound → k < max next bound → IsWindow p m sbf sheet i k → ⊥
-  windows_skipped sbf window next horizon bound k within before grows least high below lt is = elim (cases_lt k window) [
+      IsBelowWindows p m sbf sheet i window horizon bound → k < max next bound → IsWindow p m sbf sheet i k → ⊥
+  windows_skipped sbf window next horizon bound k before grows least high below lt is = elim (cases_lt k window) [
     | inl early ↦ before k early is
     | inr late ↦
         let jump = least k (omega (arith, grows window k late, is.enough)) in
-        let load = below k late (omega (arith, jump, lt, high)) (omega (arith, is.enough, within k)) in
+        let load = below k late (omega (arith, jump, lt, high)) is.enough in
         omega (arith, jump, load, lt)
   ]
 
@@ -255,25 +261,25 @@ other_under p sheet i a o x line t cap ne e is capped l from to =
     omega (arith, under l from to, ap (λ (b : Bool). cond b 0 (part x)) other, ap (λ (b : Bool). cond b 0 (part l)) other)
 
 module _ (p : PolicyMeaning) (m : CutMeaning) (sheet : SheetParts) (i a : ℕ) where
-  pub end_risen : (x limit wanted bound : ℕ) (line : Line) → wanted ≡ need_of p m sheet i a x → IsUnderTo (other_of p sheet i a) (length sheet.tasks) x line →
-      IsBelowCrossing line wanted limit bound → IsBelowEnds p m sheet i a x limit bound
+  pub end_risen : (sbf : ℕ → ℕ) (x limit wanted bound : ℕ) (line : Line) → wanted ≡ need_of p m sheet i a x → IsUnderTo (other_of p sheet i a) (length sheet.tasks) x line →
+      IsBelowCrossing sbf line wanted limit bound → IsBelowEnds p m sbf sheet i a x limit bound
   unfolding need_of others_of
-  end_risen x limit wanted bound line e under crossing l from to enough = crossing l to (λ below. omega (arith, under l from below, e, enough))
+  end_risen sbf x limit wanted bound line e under crossing l from to enough = crossing l to (λ below. omega (arith, under l from below, e, enough))
 
-  pub ends_both : (x limit low high both : ℕ) → both ≤ max low high → IsBelowEnds p m sheet i a x limit low →
-      IsBelowEnds p m sheet i a x limit high → IsBelowEnds p m sheet i a x limit both
-  ends_both x limit low high both le first second l from to enough = omega (arith, le, first l from to enough, second l from to enough)
+  pub ends_both : (sbf : ℕ → ℕ) (x limit low high both : ℕ) → both ≤ max low high → IsBelowEnds p m sbf sheet i a x limit low →
+      IsBelowEnds p m sbf sheet i a x limit high → IsBelowEnds p m sbf sheet i a x limit both
+  ends_both sbf x limit low high both le first second l from to enough = omega (arith, le, first l from to enough, second l from to enough)
 
   -- no end before the next jump serves
-  pub ends_skipped : (sbf : ℕ → ℕ) (x next limit bound k : ℕ) → ((d : ℕ) → sbf d ≤ d) → HasNoEndBefore p m sbf sheet i a x →
+  pub ends_skipped : (sbf : ℕ → ℕ) (x next limit bound k : ℕ) → HasNoEndBefore p m sbf sheet i a x →
       ((j n : ℕ) → j ≤ n → need_of p m sheet i a j ≤ need_of p m sheet i a n) →
-      ((d : ℕ) → need_of p m sheet i a x ≤ sbf d → next ≤ d) → bound ≤ limit + 1 → IsBelowEnds p m sheet i a x limit bound → k < max next bound →
+      ((d : ℕ) → need_of p m sheet i a x ≤ sbf d → next ≤ d) → bound ≤ limit + 1 → IsBelowEnds p m sbf sheet i a x limit bound → k < max next bound →
       MeetsEnd p m sbf sheet i a k → ⊥
-  ends_skipped sbf x next limit bound k within before grows least high below lt is = elim (cases_lt k x) [
+  ends_skipped sbf x next limit bound k before grows least high below lt is = elim (cases_lt k x) [
     | inl early ↦ before k early is
     | inr late ↦
         let jump = least k (omega (arith, grows x k late, is.enough)) in
-        let load = below k late (omega (arith, jump, lt, high)) (omega (arith, is.enough, within k)) in
+        let load = below k late (omega (arith, jump, lt, high)) is.enough in
         omega (arith, jump, load, lt)
   ]
 
@@ -292,17 +298,19 @@ small_both n line more both small one fixed rate loss cut = record {
 pub small_more : (n k : ℕ) (line : Line) → n ≤ k → IsSmallLine n line → IsSmallLine k line
 small_more n k line le is = record { fixed = omega (arith, is.fixed); rate = omega (arith, is.rate); loss = omega (arith, is.loss); cut = is.cut }
 
-pub crossed_never : (line : Line) (wanted horizon end : ℕ) → end ≤ line.cut + 1 → line.loss < line.fixed + wanted * scale → scale ≤ line.rate →
-    IsBelowCrossing line wanted horizon end
-crossed_never line wanted horizon end short some fast l h risen = elim (cases_lt line.cut l) [
+pub crossed_never : (line : Line) (wanted horizon spare climb end : ℕ) (sbf : ℕ → ℕ) → end ≤ line.cut + 1 →
+    down_of line spare < line.fixed + wanted * scale → climb ≤ line.rate → ((l : ℕ) → sbf l * scale ≤ climb * l + spare * scale) →
+    IsBelowCrossing sbf line wanted horizon end
+crossed_never line wanted horizon spare climb end sbf short some fast over l h risen = elim (cases_lt line.cut l) [
   | inl past ↦ omega (arith, short)
-  | inr at ↦ absurd (never_up line wanted l some fast (risen at))
+  | inr at ↦ absurd (never_up line wanted l (sbf l) spare climb some fast (over l) (risen at))
 ]
 
-pub crossed : (line : Line) (wanted horizon bound caught : ℕ) → bound ≤ line.cut + 1 → bound ≤ caught → line.loss < line.fixed + wanted * scale →
-    line.rate < scale →
-    caught ≡ (line.fixed + wanted * scale - line.loss) / (scale - line.rate) → IsBelowCrossing line wanted horizon bound
-crossed line wanted horizon bound caught short le some slow e l h risen = elim (cases_lt line.cut l) [
+pub crossed : (line : Line) (wanted horizon spare climb bound caught : ℕ) (sbf : ℕ → ℕ) → bound ≤ line.cut + 1 → bound ≤ caught →
+    down_of line spare < line.fixed + wanted * scale → line.rate < climb →
+    caught ≡ (line.fixed + wanted * scale - down_of line spare) / (climb - line.rate) →
+    ((l : ℕ) → sbf l * scale ≤ climb * l + spare * scale) → IsBelowCrossing sbf line wanted horizon bound
+crossed line wanted horizon spare climb bound caught sbf short le some slow e over l h risen = elim (cases_lt line.cut l) [
   | inl past ↦ omega (arith, short)
-  | inr at ↦ omega (arith, le, caught_up line wanted l caught some slow e (risen at))
+  | inr at ↦ omega (arith, le, caught_up line wanted l (sbf l) spare climb caught some slow e (over l) (risen at))
 ]

@@ -7,3 +7,5 @@ pub mod Ends
 pub mod Windows
 pub mod Bounds
 pub mod Loads
+pub mod Ceilings
+pub mod Groups

@@ -51,14 +51,14 @@ pub record IsSmallLine (n : ℕ) (line : Line) : Type 0 where
   pub loss : line.loss ≤ n * 2 ^ 118
   pub cut : line.cut ≤ 4000000000
 
--- up to the horizon no window before the bound has as many ticks as the line has risen to, from those that are wanted
-abbrev pub IsBelowCrossing : Line → ℕ → ℕ → ℕ → Type 0
-IsBelowCrossing line wanted horizon bound = (l : ℕ) → l ≤ horizon → (l ≤ line.cut → HasRisen line l wanted l) → bound ≤ l
+-- up to the horizon no window before the bound is supplied what the line has risen to, from those that are wanted
+abbrev pub IsBelowCrossing : (ℕ → ℕ) → Line → ℕ → ℕ → ℕ → Type 0
+IsBelowCrossing sbf line wanted horizon bound = (l : ℕ) → l ≤ horizon → (l ≤ line.cut → HasRisen line l wanted (sbf l)) → bound ≤ l
 
--- of the windows from one on up to the horizon, none before the bound has as many ticks as the class asks for
-abbrev pub IsBelowWindows : PolicyMeaning → CutMeaning → SheetParts → ℕ → ℕ → ℕ → ℕ → Type 0
-IsBelowWindows p m sheet i window horizon bound = (l : ℕ) → window ≤ l → l ≤ horizon → window_need_of p m sheet i l ≤ l → bound ≤ l
+-- of the windows from one on up to the horizon, none before the bound is supplied what the class asks for
+abbrev pub IsBelowWindows : PolicyMeaning → CutMeaning → (ℕ → ℕ) → SheetParts → ℕ → ℕ → ℕ → ℕ → Type 0
+IsBelowWindows p m sbf sheet i window horizon bound = (l : ℕ) → window ≤ l → l ≤ horizon → window_need_of p m sheet i l ≤ sbf l → bound ≤ l
 
 -- the same of ends and what a job at offset a needs
-abbrev pub IsBelowEnds : PolicyMeaning → CutMeaning → SheetParts → ℕ → ℕ → ℕ → ℕ → ℕ → Type 0
-IsBelowEnds p m sheet i a x limit bound = (l : ℕ) → x ≤ l → l ≤ limit → need_of p m sheet i a l ≤ l → bound ≤ l
+abbrev pub IsBelowEnds : PolicyMeaning → CutMeaning → (ℕ → ℕ) → SheetParts → ℕ → ℕ → ℕ → ℕ → ℕ → Type 0
+IsBelowEnds p m sbf sheet i a x limit bound = (l : ℕ) → x ≤ l → l ≤ limit → need_of p m sheet i a l ≤ sbf l → bound ≤ l

@@ -7,6 +7,7 @@ ghost use Rattle.conditions.specs.Conditions.{failed_of};
 ghost use Rattle.solver.specs.Best.{IsBest, HasCause, IsUpTo, NoneSmaller, NoneWhereNoBound};
 ghost use Rattle.solver.specs.Outcome.{IsBestAnswer};
 
+use crate::ceilings::Ceiled;
 use crate::entries::best_entry;
 use crate::laws::laws;
 use crate::windows::next_window;
@@ -17,7 +18,6 @@ use meter::Meter;
 use policy::Policy;
 use preemption::Preemption;
 use std::alloc::Global;
-use supply::Supply;
 use task_sheet::Sheet;
 
 /// What of an entry is missing.
@@ -41,7 +41,7 @@ pub enum AnalyseRefusal {
 }
 
 /// The best certificate up to the horizon, or why there is none.
-fn best_cert<P: Policy, M: Preemption, S: Supply>(
+fn best_cert<P: Policy, M: Preemption, S: Ceiled>(
     alloc: Global,
     sheet: &Sheet,
     supply: &S,
@@ -98,7 +98,7 @@ fn best_cert<P: Policy, M: Preemption, S: Supply>(
 ///
 /// It meets every condition but that on deadlines, and no certificate with a point in each entry
 /// that meets these has a smaller window or bound.
-pub fn analyse<P: Policy, M: Preemption, S: Supply>(
+pub fn analyse<P: Policy, M: Preemption, S: Ceiled>(
     alloc: Global,
     sheet: &Sheet,
     supply: &S,

@@ -6,6 +6,7 @@ ghost use Rattle.preemption.specs.CutLaws.{Serves};
 ghost use Rattle.demand.specs.Meeting.{IsWindow};
 ghost use Rattle.solver.specs.Bounds.{IsBelowOrAbove, IsBoundWithin, IsServedBy, TasksHaveOneBound};
 
+use crate::ceilings::Ceiled;
 use crate::laws::laws;
 use crate::searches::{least_bound, least_end, least_window};
 use demand::{demand_grows, need_falls, need_fits};
@@ -18,7 +19,7 @@ use task_sheet::Sheet;
 /// The bound in the best entry of task `i`, whose least window in ticks is given; None only where it
 /// is above the limit, which is seen at the first offset that asks for more.
 #[tactic(auto, using(task_sheet::specs::Limits::jitter_high))]
-fn bound_below<P: Policy, M: Preemption, S: Supply>(
+fn bound_below<P: Policy, M: Preemption, S: Ceiled>(
     sheet: &Sheet,
     supply: &S,
     i: u32,
@@ -57,7 +58,7 @@ fn bound_below<P: Policy, M: Preemption, S: Supply>(
 
 /// The least bound of task `i`, where it is at most the limit, and it and the least window are up to
 /// the horizon, all in ticks: that of its entry in the best certificate.
-pub fn task_bound<P: Policy, M: Preemption, S: Supply>(
+pub fn task_bound<P: Policy, M: Preemption, S: Ceiled>(
     sheet: &Sheet,
     supply: &S,
     i: u32,

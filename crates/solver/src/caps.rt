@@ -2,7 +2,7 @@
 //!
 //! Near load 1 single steps are too many. Tasks of short horizons ask for at least what a line says
 //! that rises with their load, and the others for no less than they do already; so no window is
-//! enough before the supply, of at most one tick a tick, has caught up with that line.
+//! enough before the ceiling of the supply has caught up with that line.
 ghost use Rattle.std.specs.Prelude.{◌≡◌, ◌≤◌, ◌<◌, ◌+◌, length};
 ghost use Rattle.lists.specs.Limits.{greatest_number};
 ghost use Rattle.preemption.specs.CutLaws.{Serves};
@@ -13,8 +13,10 @@ ghost use Rattle.demand.specs.Demand.{other_of, class_part_of, need_of, window_n
 ghost use Rattle.solver.specs.Loads.{IsUnderCapped, IsUnderAt, IsUnderTo, IsSmallLine};
 ghost use Rattle.solver.specs.Loads.{IsBelowWindows, IsBelowEnds};
 
+use crate::ceilings::Ceiled;
 use crate::load::{FLAT, Line, crossing, joined, slope};
 use crate::pace::Pace;
+use crate::together::{class_bound, others_bound};
 use lists::limits::GREATEST_NUMBER;
 use policy::{Cap, Policy};
 use preemption::Preemption;
@@ -22,7 +24,7 @@ use task_sheet::{Sheet, Task};
 
 /// The line of what task `o` asks for in the class of task `i`, where its horizon is at most so
 /// long.
-fn part_line<P: Policy>(sheet: &Sheet, i: u32, o: u32, x: u64, long: u64) -> Line
+pub fn part_line<P: Policy>(sheet: &Sheet, i: u32, o: u32, x: u64, long: u64) -> Line
     requires i { i < length sheet.now.tasks }
     requires o { o < length sheet.now.tasks }
     requires window { x ≤ greatest_number }
@@ -56,7 +58,7 @@ fn class_line<P: Policy>(sheet: &Sheet, i: u32, x: u64, long: u64) -> Line
 }
 
 /// How far a cap reaches, in ticks from the window's begin.
-fn reach(c: i64) -> u64
+pub fn reach(c: i64) -> u64
     ensures { result ≡ not_below_zero c }
 {
     if c <= 0 { 0 } else { c as u64 }
@@ -100,7 +102,7 @@ fn cap_line(task: &Task, cap: Cap, x: u64) -> Line
 
 /// The line of what task `o` asks for, of what a job of task `i` waits for at offset `a`, where its
 /// horizon is at most `long`.
-fn other_line<P: Policy>(sheet: &Sheet, i: u32, a: u64, o: u32, x: u64, long: u64) -> Line
+pub fn other_line<P: Policy>(sheet: &Sheet, i: u32, a: u64, o: u32, x: u64, long: u64) -> Line
     requires i { i < length sheet.now.tasks }
     requires o { o < length sheet.now.tasks }
     requires offset { a ≤ greatest_number }
@@ -135,8 +137,9 @@ fn others_line<P: Policy>(sheet: &Sheet, i: u32, a: u64, x: u64, long: u64) -> L
 
 /// Before which window those from `window` on do not supply what the class of task `i` asks for,
 /// which asks for so many ticks there: the best of the lines that follow tasks of short horizons.
-fn longest_window<P: Policy, M: Preemption>(
+fn longest_window<P: Policy, M: Preemption, S: Ceiled>(
     sheet: &Sheet,
+    supply: &S,
     i: u32,
     window: u64,
     wanted: u128,
@@ -147,24 +150,28 @@ fn longest_window<P: Policy, M: Preemption>(
     requires horizon { horizon ≤ greatest_number }
     requires wanted { wanted ≡ window_need_of P.meaning M.cuts sheet.now i window }
     requires few { wanted ≤ greatest_number }
-    ensures below { IsBelowWindows P.meaning M.cuts sheet.now i window horizon result }
+    ensures below { IsBelowWindows P.meaning M.cuts (S.sbf supply.now) sheet.now i window horizon
+        result }
     ensures within { result ≤ horizon + 1 }
 {
     // for the proof: the sheet is valid
     let _valid = sheet.len();
+    let ceiling = supply.ceiling();
     let mut bound: u64 = 0;
     let mut long = 1;
     while long <= GREATEST_NUMBER {
         let line = class_line::<P>(sheet, i, window, long);
-        bound = bound.max(crossing(line, wanted, horizon));
+        bound = bound.max(crossing(line, wanted, horizon, &ceiling));
+        bound = bound.max(class_bound::<P, M>(sheet, i, window, wanted, horizon, long, &ceiling));
         long *= 4;
     }
     bound
 }
 
 /// The same, where it is the turn to look at the load, else 0; the turn alone leads to `next`.
-pub fn window_bound<P: Policy, M: Preemption>(
+pub fn window_bound<P: Policy, M: Preemption, S: Ceiled>(
     sheet: &Sheet,
+    supply: &S,
     i: u32,
     window: u64,
     wanted: u128,
@@ -177,21 +184,23 @@ pub fn window_bound<P: Policy, M: Preemption>(
     requires horizon { horizon ≤ greatest_number }
     requires wanted { wanted ≡ window_need_of P.meaning M.cuts sheet.now i window }
     requires few { wanted ≤ greatest_number }
-    ensures below { IsBelowWindows P.meaning M.cuts sheet.now i window horizon result }
+    ensures below { IsBelowWindows P.meaning M.cuts (S.sbf supply.now) sheet.now i window horizon
+        result }
     ensures within { result ≤ horizon + 1 }
 {
     if !pace.is_due() {
         return 0;
     }
-    let bound = longest_window::<P, M>(sheet, i, window, wanted, horizon);
+    let bound = longest_window::<P, M, S>(sheet, supply, i, window, wanted, horizon);
     pace.note(window, next, bound);
     bound
 }
 
 /// Before which end those from `x` on do not supply what a job of task `i` at offset `a` needs,
 /// which needs so many ticks by then.
-fn longest_end<P: Policy, M: Preemption>(
+fn longest_end<P: Policy, M: Preemption, S: Ceiled>(
     sheet: &Sheet,
+    supply: &S,
     i: u32,
     a: u64,
     x: u64,
@@ -204,24 +213,29 @@ fn longest_end<P: Policy, M: Preemption>(
     requires limit { limit ≤ greatest_number }
     requires wanted { wanted ≡ need_of P.meaning M.cuts sheet.now i a x }
     requires few { wanted ≤ greatest_number }
-    ensures below { IsBelowEnds P.meaning M.cuts sheet.now i a x limit result }
+    ensures below { IsBelowEnds P.meaning M.cuts (S.sbf supply.now) sheet.now i a x limit result }
     ensures within { result ≤ limit + 1 }
 {
     // for the proof: the sheet is valid
     let _valid = sheet.len();
+    let ceiling = supply.ceiling();
     let mut bound: u64 = 0;
     let mut long = 1;
     while long <= GREATEST_NUMBER {
         let line = others_line::<P>(sheet, i, a, x, long);
-        bound = bound.max(crossing(line, wanted, limit));
+        bound = bound.max(crossing(line, wanted, limit, &ceiling));
+        bound = bound.max(others_bound::<P, M>(
+            sheet, i, a, x, wanted, limit, long, line.cut, &ceiling,
+        ));
         long *= 4;
     }
     bound
 }
 
 /// The same, where it is the turn to look at the load, else 0; the turn alone leads to `next`.
-pub fn end_bound<P: Policy, M: Preemption>(
+pub fn end_bound<P: Policy, M: Preemption, S: Ceiled>(
     sheet: &Sheet,
+    supply: &S,
     i: u32,
     a: u64,
     x: u64,
@@ -236,13 +250,13 @@ pub fn end_bound<P: Policy, M: Preemption>(
     requires limit { limit ≤ greatest_number }
     requires wanted { wanted ≡ need_of P.meaning M.cuts sheet.now i a x }
     requires few { wanted ≤ greatest_number }
-    ensures below { IsBelowEnds P.meaning M.cuts sheet.now i a x limit result }
+    ensures below { IsBelowEnds P.meaning M.cuts (S.sbf supply.now) sheet.now i a x limit result }
     ensures within { result ≤ limit + 1 }
 {
     if !pace.is_due() {
         return 0;
     }
-    let bound = longest_end::<P, M>(sheet, i, a, x, wanted, limit);
+    let bound = longest_end::<P, M, S>(sheet, supply, i, a, x, wanted, limit);
     pace.note(x, next, bound);
     bound
 }

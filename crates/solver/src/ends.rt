@@ -9,17 +9,17 @@ ghost use Rattle.meter.specs.Meters.{meter_at};
 ghost use Rattle.solver.specs.Ends.{HasNoEndBefore};
 
 use crate::caps::end_bound;
+use crate::ceilings::Ceiled;
 use crate::laws::{laws, need_rises};
 use crate::pace::Pace;
 use meter::Meter;
 use policy::Policy;
 use preemption::Preemption;
-use supply::Supply;
 use task_sheet::Sheet;
 
 /// The least end up to the limit that meets `K7` for task `i` at offset `a`, where none before
 /// `begin` does. The meter stands at the offset and `begin`, and moves on to the end.
-pub fn next_end<P: Policy, M: Preemption, S: Supply>(
+pub fn next_end<P: Policy, M: Preemption, S: Ceiled>(
     sheet: &Sheet,
     supply: &S,
     i: u32,
@@ -49,7 +49,8 @@ pub fn next_end<P: Policy, M: Preemption, S: Supply>(
         if next <= end {
             return Some(end);
         }
-        end = next.max(end_bound::<P, M>(sheet, i, a, end, wanted, limit, next, &mut pace));
+        let load = end_bound::<P, M, S>(sheet, supply, i, a, end, wanted, limit, next, &mut pace);
+        end = next.max(load);
         if end > limit {
             return None;
         }

@@ -6,6 +6,7 @@ ghost use Rattle.preemption.specs.CutLaws.{Serves};
 ghost use Rattle.demand.specs.Meeting.{IsWindow};
 ghost use Rattle.solver.specs.Ends.{IsEntryWithin};
 
+use crate::ceilings::Ceiled;
 use crate::ends::{next_end, next_offset};
 use crate::laws::laws;
 use crate::searches::bound_for;
@@ -16,13 +17,12 @@ use meter::Meter;
 use policy::Policy;
 use preemption::Preemption;
 use std::alloc::{AllocError, Global};
-use supply::Supply;
 use task_sheet::Sheet;
 
 /// The best entry of task `i`, whose least window in ticks is given; None where it has more points
 /// than there is room for. The meter is one of the sheet, and goes once over the task's offsets.
 #[tactic(auto, using(task_sheet::specs::Limits::jitter_high))]
-pub fn best_entry<P: Policy, M: Preemption, S: Supply>(
+pub fn best_entry<P: Policy, M: Preemption, S: Ceiled>(
     alloc: Global,
     sheet: &Sheet,
     supply: &S,

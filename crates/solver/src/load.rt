@@ -1,16 +1,18 @@
 //! Lines below what tasks ask for, which rise with their load.
-ghost use Rattle.std.specs.Prelude.{◌≡◌, ◌≤◌, ◌+◌, ◌*◌, ◌-◌, ◌/◌, ◌^◌, min};
+ghost use Rattle.std.specs.Prelude.{◌≡◌, ◌≤◌, ◌+◌, ◌*◌, ◌-◌, ◌/◌, ◌^◌, ℕ, min};
 ghost use Rattle.lists.specs.Limits.{greatest_number, greatest_value};
 ghost use Rattle.curve.specs.Curves.{alpha_of};
 ghost use Rattle.curve.specs.Validity.{IsCurve};
 ghost use Rattle.task_sheet.specs.Sheets.{IsTask};
+ghost use Rattle.solver.specs.Ceilings.{IsCeiling, IsOver};
 ghost use Rattle.solver.specs.Loads.{scale, IsBehind, IsUnderWhole, IsSmallLine, IsBelowCrossing};
 
+use crate::ceilings::Ceiling;
 use curve::Prefix;
 use task_sheet::Task;
 
 /// Lines count in these parts of a tick.
-const SCALE: u128 = 68_719_476_736;
+pub const SCALE: u128 = 68_719_476_736;
 
 /// A line below what is asked for as a window grows, in parts of a tick.
 #[derive(Clone, Copy, Debug, PartialEq, Eq)]
@@ -34,7 +36,7 @@ pub const FLAT: Line = Line {
 };
 
 /// The ticks that the jobs of a task can ask for in a window of `d` ticks.
-fn asked(task: &Task, d: u64) -> u128
+pub fn asked(task: &Task, d: u64) -> u128
     requires valid { IsTask task.now }
     requires window { d ≤ 2000000001 }
     ensures exact { result ≡ task.now.cost * alpha_of task.now.curve d }
@@ -65,7 +67,7 @@ fn load(task: &Task) -> u128
 
 /// How many jobs the curve is at most below the line that rises to its value at the horizon: on
 /// each stair it is the furthest below at the last length.
-fn lag(curve: &Prefix) -> u128
+pub fn lag(curve: &Prefix) -> u128
     requires valid { IsCurve curve.now }
     ensures behind { IsBehind curve.now curve.now.horizon result }
     ensures bound { result ≤ greatest_value }
@@ -85,7 +87,7 @@ fn lag(curve: &Prefix) -> u128
 }
 
 /// How much the line of a task rises a tick, in parts of a tick.
-fn rate(task: &Task) -> u128
+pub fn rate(task: &Task) -> u128
     requires valid { IsTask task.now }
     ensures exact { result ≡ task.now.cost * alpha_of task.now.curve task.now.curve.horizon *
         scale / task.now.curve.horizon }
@@ -128,25 +130,39 @@ pub fn joined(line: Line, more: Line) -> Line
     }
 }
 
-/// Before which window a supply of a tick a tick has not caught up with the line, which stands at
+/// How much a ceiling rises a tick, in parts of a tick: rounded up, so that it stays one.
+fn climb(ceiling: &Ceiling) -> u128
+    requires small { IsCeiling ceiling.now }
+    ensures enough { ceiling.now.rate * scale ≤ result * ceiling.now.horizon }
+    ensures bound { result ≤ 2 ^ 67 }
+{
+    let horizon = ceiling.horizon as u128;
+    (ceiling.rate as u128 * SCALE + horizon - 1) / horizon
+}
+
+/// Before which window a supply with this ceiling has not caught up with the line, which stands at
 /// so many ticks.
-pub fn crossing(line: Line, wanted: u128, horizon: u64) -> u64
+pub fn crossing(line: Line, wanted: u128, horizon: u64, ceiling: &Ceiling) -> u64
     requires line { IsSmallLine 256 line }
     requires wanted { wanted ≤ greatest_number }
     requires horizon { horizon ≤ greatest_number }
     requires cut { line.cut ≤ 4000000000 }
-    ensures below { IsBelowCrossing line wanted horizon result }
+    requires ceiling { IsCeiling ceiling.now }
+    ensures below { (sbf : ℕ → ℕ) → IsOver sbf ceiling.now →
+        IsBelowCrossing sbf line wanted horizon result }
     ensures within { result ≤ horizon + 1 }
 {
     let up = line.fixed + wanted * SCALE;
-    if up <= line.loss {
+    let down = line.loss + ceiling.spare as u128 * SCALE;
+    if up <= down {
         return 0;
     }
     let end = (horizon + 1).min(line.cut + 1);
-    if line.rate >= SCALE {
+    let climb = climb(ceiling);
+    if line.rate >= climb {
         return end;
     }
-    let caught = (up - line.loss) / (SCALE - line.rate);
+    let caught = (up - down) / (climb - line.rate);
     if caught < end as u128 {
         caught as u64
     } else {

@@ -10,6 +10,7 @@ ghost use Rattle.demand.specs.Demand.{need_of, rest_of};
 ghost use Rattle.demand.specs.Meeting.{IsWindow, MeetsEnd, BoundMeets};
 
 use crate::caps::{end_bound, window_bound};
+use crate::ceilings::Ceiled;
 use crate::laws::laws;
 use crate::pace::Pace;
 use demand::{need, rest, window_need};
@@ -19,7 +20,7 @@ use supply::Supply;
 use task_sheet::Sheet;
 
 /// The least window of task `i` up to the horizon, both in ticks, that meets `K3`.
-pub fn least_window<P: Policy, M: Preemption, S: Supply>(
+pub fn least_window<P: Policy, M: Preemption, S: Ceiled>(
     sheet: &Sheet,
     supply: &S,
     i: u32,
@@ -41,14 +42,17 @@ pub fn least_window<P: Policy, M: Preemption, S: Supply>(
         if next <= window {
             return Some(window);
         }
-        window = next.max(window_bound::<P, M>(sheet, i, window, wanted, horizon, next, &mut pace));
+        let load = window_bound::<P, M, S>(
+            sheet, supply, i, window, wanted, horizon, next, &mut pace,
+        );
+        window = next.max(load);
     }
     None
 }
 
 /// The least end up to the limit that meets `K7` for task `i` at offset `a`, all in ticks from the
 /// window's begin.
-pub fn least_end<P: Policy, M: Preemption, S: Supply>(
+pub fn least_end<P: Policy, M: Preemption, S: Ceiled>(
     sheet: &Sheet,
     supply: &S,
     i: u32,
@@ -72,7 +76,8 @@ pub fn least_end<P: Policy, M: Preemption, S: Supply>(
         if next <= end {
             return Some(end);
         }
-        end = next.max(end_bound::<P, M>(sheet, i, a, end, wanted, limit, next, &mut pace));
+        let load = end_bound::<P, M, S>(sheet, supply, i, a, end, wanted, limit, next, &mut pace);
+        end = next.max(load);
     }
     None
 }

@@ -6,11 +6,11 @@ ghost use Rattle.preemption.specs.CutLaws.{Serves};
 ghost use Rattle.demand.specs.Meeting.{IsWindow};
 ghost use Rattle.solver.specs.Windows.{AskSame};
 
+use crate::ceilings::Ceiled;
 use crate::searches::least_window;
 use demand::window_need;
 use policy::Policy;
 use preemption::Preemption;
-use supply::Supply;
 use task_sheet::Sheet;
 
 /// Whether two tasks are seen to ask for the same in every window: who is in the class of one is
@@ -32,7 +32,7 @@ fn ask_same<P: Policy, M: Preemption>(sheet: &Sheet, i: u32, j: u32) -> bool
 
 /// The least window of task `i` up to the horizon, both in ticks, that meets `K3`; `before` is that
 /// of the task before, where there is one.
-pub fn next_window<P: Policy, M: Preemption, S: Supply>(
+pub fn next_window<P: Policy, M: Preemption, S: Ceiled>(
     sheet: &Sheet,
     supply: &S,
     i: u32,

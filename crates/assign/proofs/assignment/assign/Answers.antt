@@ -1,8 +1,17 @@
-use Rattle.std.proofs.Common.{◌≡◌, ◌+◌, length, arith}
+use Rattle.std.proofs.Common.{◌≡◌, ◌+◌, [], length, arith, rules}
+use Rattle.assign.specs.Sheets.{sheet_in}
+use Rattle.assign.proofs.FillFacts.{begun}
 use Rattle.assign.proofs.TrialFacts.{keeps_cuts}
 use Rattle.assign.proofs.EndFacts.{ordered, good, in_time, bounded, no_order}
 use Rattle.assign.proofs.OutcomeFacts.{assignment_is, refusal_is}
 use Rattle.assign.proofs.assignment.assign.Goals as goal
+
+pub loop-below-init : goal.loop-below-init
+loop-below-init g c =
+    let sheet = c.args.sheet.now in
+    let same : c.in-Ok.trial ≡ sheet_in sheet [] = search rules in
+    let count : length c.in-Ok-vec.places.items ≡ length sheet.tasks = search rules in
+    ([], begun g.M.Preemption.cuts (g.S.Supply.sbf c.args.supply.now) sheet c.args.horizon c.in-Ok.trial c.in-Ok-vec.places.items same count)
 
 pub returns-then-not-fill_level-clause-refusal : goal.returns-then-not-fill_level-clause-refusal
 returns-then-not-fill_level-clause-refusal g c =

@@ -22,10 +22,10 @@ loop-at-preserved g c =
     let here : k < length ps = c.loop-at-test.true in
     record {
       rest = ap (λ (j : Judged). fold line j (map point_step (drop (k + 1) (lines_of ps ts))))
-          (c.line_judged-judged.ensures.judged ∙ ap (λ (t : Option Terms). line c.loop-at.judged (says.Point q.offset q.end t)) c.told_at.ensures)
+          (c.note_point.ensures.judged ∙ ap (λ (t : Option Terms). line c.loop-at.judged (says.Point q.offset q.end t)) c.told_at-told.ensures)
           ∙ points_on p m sbf c.args.sheet.now c.args.deadlines ps ts k c.loop-at.judged _ c.loop-at.invariant.rest q here
           (get_or_default ps k (point_of 0 0) q here);
-      ready = c.line_judged-judged.ensures.ready;
+      ready = c.note_point.ensures.ready;
     }
 
 pub returns-clause-judged : goal.returns-clause-judged

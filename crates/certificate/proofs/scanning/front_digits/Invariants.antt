@@ -1,4 +1,4 @@
-use Rattle.std.proofs.Common.{◌≡◌, ◌<◌, ◌^◌, take}
+use Rattle.std.proofs.Common.{◌≡◌, take}
 use Rattle.std.specs.Str.Parse.{AllDigits, digits_value}
 use Rattle.certificate.proofs.scanning.front_digits.Given as goal
 
@@ -6,5 +6,4 @@ abbrev pub invariant-loop-at : goal.invariant-loop-at
 invariant-loop-at l = record {
   all : AllDigits 10 (take l.at l.bytes);
   value : l.value ≡ digits_value 10 (take l.at l.bytes);
-  small : l.value < 10 ^ 18;
 }

@@ -1,20 +1,26 @@
-use Rattle.std.proofs.Common.{◌+◌, arith}
-use Rattle.meter.proofs.MoveFacts.{recount_started, recount_skipped, recounted_one, recounted_all}
+use Rattle.std.proofs.Common.{◌<◌, ◌≤◌, length, arith}
+use Rattle.meter.specs.Soonests.{number_of}
+use Rattle.meter.proofs.MoveFacts.{recount_started, recounted_one, recount_smaller, recounted_all}
 use Rattle.meter.proofs.moves.advance.Goals as goal
 
-pub loop-o-init : goal.loop-o-init
-loop-o-init g c =
-    let p = g.P.Policy.meaning in
-    let sheet = c.args.sheet.now in
-    recount_skipped p sheet c.args.i c.args.a c.args.b c.requires.order (omega (arith, c.requires.offset)) 0 _ _ _
-    (recount_started p sheet c.args.i c.args.a c.args.b _ c.requires.tracking c.requires.counted) c.next_from-o.ensures
+pub loop-tracks-init : goal.loop-tracks-init
+loop-tracks-init g c =
+    recount_started g.P.Policy.meaning c.args.sheet.now c.args.i c.args.a c.args.b c.requires.order (omega (arith, c.requires.offset)) _
+    c.requires.tracking c.requires.counted
 
-pub loop-o-preserved : goal.loop-o-preserved
-loop-o-preserved g c =
-    let p = g.P.Policy.meaning in
-    let sheet = c.args.sheet.now in
-    recount_skipped p sheet c.args.i c.args.a c.args.b c.requires.order (omega (arith, c.requires.offset)) (c.loop-o.o + 1) _ _ _
-    (recounted_one p sheet c.args.i c.args.a c.args.b c.loop-o.o _ _ _ (omega arith) c.loop-o.invariant c.recount.ensures) c.next_from-o-in-loop-o.ensures
+pub loop-tracks-preserved : goal.loop-tracks-preserved
+loop-tracks-preserved g c =
+    recounted_one g.P.Policy.meaning c.args.sheet.now c.args.i c.args.b c.first-o.result _ _ _ c.loop-tracks.invariant c.recount.ensures
+
+pub loop-tracks-smaller : goal.loop-tracks-smaller
+loop-tracks-smaller g c =
+    let o = c.first-o.result in
+    let there = c.least.ensures.stands in
+    let within : o < length c.args.sheet.now.tasks = omega (arith, c.first-o.ensures.within, c.loop-tracks.invariant.count) in
+    let low : number_of c.loop-tracks.tracks.changes o ≤ c.args.b =
+    omega (arith, c.loop-tracks-test.true, there.is, c.first-o.ensures.least there.at there.within) in
+    recount_smaller g.P.Policy.meaning c.args.sheet.now c.args.i c.args.b o _ _ within c.recount.ensures low
 
 pub returns : goal.returns
-returns g c = recounted_all g.P.Policy.meaning c.args.sheet.now c.args.i c.args.a c.args.b c.loop-o.o _ _ c.loop-o.invariant (omega arith)
+returns g c =
+    recounted_all g.P.Policy.meaning c.args.sheet.now c.args.i c.args.b c.least.result _ _ c.loop-tracks.invariant c.least.ensures c.loop-tracks-test.false

@@ -1,9 +1,5 @@
-use Rattle.std.proofs.Common.{◌-◌, length}
 use Rattle.meter.proofs.MoveFacts.{IsFalling}
 use Rattle.meter.proofs.moves.fall.Given as goal
 
 abbrev pub invariant-loop-o : goal.invariant-loop-o
 invariant-loop-o g l = IsFalling g.P.Policy.meaning l.sheet l.i l.x l.o l.fn.tracks l.tracks
-
-abbrev pub decreases-loop-o : goal.decreases-loop-o
-decreases-loop-o g l = length l.sheet.tasks - l.o

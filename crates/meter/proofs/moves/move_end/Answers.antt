@@ -1,4 +1,4 @@
-use Rattle.std.proofs.Common.{◌≡◌, ℕ, ◌+◌, ◌-◌, List, length, set, ap, arith, subst, refl, sym, ◌∙◌}
+use Rattle.std.proofs.Common.{◌≡◌, ℕ, ◌+◌, ◌-◌, min, List, length, set, ap, arith, subst, refl, sym, ◌∙◌}
 use Rattle.std.specs.Vec.{with_items}
 use Rattle.std.proofs.lemmas.List.{get_or_read, with_items_is, length-set}
 use Rattle.lists.specs.Sums.{sum_below}
@@ -42,8 +42,6 @@ returns g c =
     let new : Tracks = record {
       places = with_items t.places c.put-tracks.new.places;
       untils = c.set.new.self;
-      froms =
-          c.set-2.new.self;
       changes = t.changes;
       sum = c.put-tracks.result;
     } in
@@ -56,10 +54,10 @@ returns g c =
       length-set c.deref_mut.result.now o (at c.index-before.result.now.count),
       c.deref_mut.ensures.len,
     )) in
+    let until : c.min.result ≡ min (end.until - (task_at sheet o).jitter) 2000000000 = omega (arith, jitter, c.min.ensures) in
     end_moved p sheet c.args.i c.args.x o c.requires.end c.requires.o (omega (arith, jitter, c.task-task.ensures.jitter)) t new c.requires.tracking end stair
     (items ∙ put ∙ ap (λ (ps : List Place). set ps o (at c.index-before.result.now.count)) c.deref_mut.ensures.value ∙
     ap (λ (s : Place). set t.places.items o (at s.count)) before)
-    (c.set.ensures ∙ ap (λ (j : ℕ). set t.untils o (end.until - j)) jitter)
-    (c.set-2.ensures ∙ ap (λ (j : ℕ). set t.froms o (5000000000 + j - end.from)) jitter)
+    (c.set.ensures ∙ ap (set t.untils o) until)
     refl
     (c.put-tracks.ensures.sum ∙ ap (λ (ps : List Place). sum_below (asked_of p sheet c.args.i ps) (length sheet.tasks)) (sym items))

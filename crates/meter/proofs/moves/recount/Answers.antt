@@ -34,8 +34,6 @@ returns g c =
     let new : Tracks = record {
       places = with_items t.places c.put-tracks.new.places;
       untils = t.untils;
-      froms =
-          t.froms;
       changes = c.set.new.self;
       sum = c.put-tracks.result;
     } in
@@ -52,7 +50,6 @@ returns g c =
     c.counting-counted.ensures.bound c.counting-counted.ensures.counted
     (items ∙ put ∙ ap (λ (ps : List Place). set ps o (at c.index-before.result.now.end)) c.deref_mut.ensures.value ∙
     ap (λ (s : Place). set t.places.items o (at s.end)) before)
-    refl
     refl
     c.set.ensures
     (c.put-tracks.ensures.sum ∙ ap (λ (ps : List Place). sum_below (asked_of p sheet c.args.i ps) (length sheet.tasks)) (sym items))

@@ -1,22 +1,25 @@
-use Rattle.std.proofs.Common.{◌+◌, arith}
-use Rattle.meter.proofs.MoveFacts.{started, rising_on, risen_one, risen}
-use Rattle.meter.specs.Tracking.{HasBegun, IsOpen}
+use Rattle.std.proofs.Common.{◌<◌, ◌≤◌, length, arith}
+use Rattle.meter.specs.Soonests.{number_of}
+use Rattle.meter.proofs.MoveFacts.{rise_begun, risen_one, rise_smaller, risen}
 use Rattle.meter.proofs.moves.rise.Goals as goal
 
-pub loop-o-init : goal.loop-o-init
-loop-o-init g c =
-    let p = g.P.Policy.meaning in
-    let sheet = c.args.sheet.now in
-    let x = c.args.x in
-    rising_on p sheet c.args.i x 0 _ _ _
-    (started p sheet c.args.i (HasBegun sheet x) (IsOpen sheet x) _ c.requires.tracking c.requires.begun) c.next_from-o.ensures
+pub loop-tracks-init : goal.loop-tracks-init
+loop-tracks-init g c = rise_begun g.P.Policy.meaning c.args.sheet.now c.args.i c.args.x _ c.requires.tracking c.requires.begun
 
-pub loop-o-preserved : goal.loop-o-preserved
-loop-o-preserved g c =
-    let p = g.P.Policy.meaning in
-    let sheet = c.args.sheet.now in
-    rising_on p sheet c.args.i c.args.x (c.loop-o.o + 1) _ _ _
-    (risen_one p sheet c.args.i c.args.x c.loop-o.o _ _ _ (omega arith) c.loop-o.invariant c.move_end.ensures) c.next_from-o-in-loop-o.ensures
+pub loop-tracks-preserved : goal.loop-tracks-preserved
+loop-tracks-preserved g c =
+    risen_one g.P.Policy.meaning c.args.sheet.now c.args.i c.args.x c.first-o.result _ _ _ c.loop-tracks.invariant c.move_end.ensures
+
+pub loop-tracks-smaller : goal.loop-tracks-smaller
+loop-tracks-smaller g c =
+    let o = c.first-o.result in
+    let tracking = c.loop-tracks.invariant.tracking in
+    let there = c.least.ensures.stands in
+    let within : o < length c.args.sheet.now.tasks = omega (arith, c.first-o.ensures.within, tracking.full) in
+    let low : number_of c.loop-tracks.tracks.untils o ≤ c.args.x =
+    omega (arith, c.loop-tracks-test.true, there.is, c.first-o.ensures.least there.at there.within) in
+    rise_smaller g.P.Policy.meaning c.args.sheet.now c.args.i c.args.x c.requires.end o _ _ within tracking c.move_end.ensures low
 
 pub returns : goal.returns
-returns g c = risen g.P.Policy.meaning c.args.sheet.now c.args.i c.args.x c.loop-o.o _ _ c.loop-o.invariant (omega arith)
+returns g c =
+    risen g.P.Policy.meaning c.args.sheet.now c.args.i c.args.x c.least.result _ _ c.loop-tracks.invariant c.least.ensures c.loop-tracks-test.false

@@ -1,4 +1,4 @@
-use Rattle.std.proofs.Common.{◌≡◌, ℕ, ◌+◌, ◌-◌, set, ap, arith, subst, refl, ◌∙◌}
+use Rattle.std.proofs.Common.{◌≡◌, ℕ, ◌+◌, ◌-◌, min, set, ap, arith, subst, refl, ◌∙◌}
 use Rattle.curve.specs.Stairs.{IsStair}
 use Rattle.task_sheet.specs.declared.tasks.Task.{Task}
 use Rattle.task_sheet.specs.Sheets.{task_at}
@@ -31,10 +31,10 @@ returns-clause-settled g c =
     subst (λ (task : Task). IsStair task.curve end task.jitter) c.task-task.ensures.task c.stair_to-end.ensures in
     let stair : IsStair (task_at sheet o).curve end (0 + (task_at sheet o).jitter) =
     subst (λ (d : ℕ). IsStair (task_at sheet o).curve end d) (omega arith) here in
+    let until : c.min.result ≡ min (end.until - (task_at sheet o).jitter) 2000000000 = omega (arith, jitter, c.min.ensures) in
     settled p sheet c.args.i o c.requires.o (omega (arith, jitter, c.task-task.ensures.jitter)) t c.requires.ready end stair
     counted.count counted.change c.counting-counted.ensures.bound c.counting-counted.ensures.counted _
     refl
-    (c.set.ensures ∙ ap (λ (j : ℕ). set t.untils o (end.until - j)) jitter)
-    (c.set-2.ensures ∙ ap (λ (j : ℕ). set t.froms o (5000000000 + j - end.from)) jitter)
-    c.set-3.ensures
+    (c.set.ensures ∙ ap (set t.untils o) until)
+    c.set-2.ensures
     (ap (λ (w : ℕ). t.sum + w) c.part.ensures.exact)

@@ -11,11 +11,11 @@ returns-then-next-end-clause-least g c =
           (omega (arith, need, c.in-Some.ensures.1.holds)) c.loop-end.invariant.before,
     )
 
-pub end_bound-requires-clause-wanted : goal.end_bound-requires-clause-wanted
-end_bound-requires-clause-wanted g c = rw c.loop-end.invariant.at at c.need-wanted.ensures.exact
+pub end_bound-load-requires-clause-wanted : goal.end_bound-load-requires-clause-wanted
+end_bound-load-requires-clause-wanted g c = rw c.loop-end.invariant.at at c.need-wanted.ensures.exact
 
-pub end_bound-requires-clause-few : goal.end_bound-requires-clause-few
-end_bound-requires-clause-few g c =
+pub end_bound-load-requires-clause-few : goal.end_bound-load-requires-clause-few
+end_bound-load-requires-clause-few g c =
     omega (arith, c.in-Some.ensures.1.holds, c.laws.ensures.within c.in-Some.next, c.in-Some.ensures.0, c.requires.limit)
 
 pub returns-then-end-limit-clause-least : goal.returns-then-end-limit-clause-least
@@ -23,10 +23,10 @@ returns-then-end-limit-clause-least g c =
     let laws = c.laws.ensures in
     let need = rw c.loop-end.invariant.at at c.need-wanted.ensures.exact in
     λ k le. ends_skipped _ _ _ _ _ (g.S.Supply.sbf c.args.supply.now) c.loop-end.end c.in-Some.next c.args.limit
-    c.end_bound.result k laws.within c.loop-end.invariant.before
+    c.end_bound-load.result k c.loop-end.invariant.before
     (λ j n h. laws.need_grows c.args.i c.args.a j n c.requires.task h)
     (λ d h. c.in-Some.ensures.1.least d (omega (arith, h, need)))
-    c.end_bound.ensures.within c.end_bound.ensures.below (omega (arith, le, c.max-end.ensures))
+    c.end_bound-load.ensures.within c.end_bound-load.ensures.below (omega (arith, le, c.max-end.ensures))
 
 pub loop-end-preserved : goal.loop-end-preserved
 loop-end-preserved g c =
@@ -35,8 +35,8 @@ loop-end-preserved g c =
     record {
       at = rw c.loop-end.invariant.at at c.move_to.ensures;
       before = λ k lt. ends_skipped _ _ _ _ _ (g.S.Supply.sbf c.args.supply.now) c.loop-end.end c.in-Some.next c.args.limit
-          c.end_bound.result k laws.within c.loop-end.invariant.before
+          c.end_bound-load.result k c.loop-end.invariant.before
           (λ j n h. laws.need_grows c.args.i c.args.a j n c.requires.task h)
           (λ d h. c.in-Some.ensures.1.least d (omega (arith, h, need)))
-          c.end_bound.ensures.within c.end_bound.ensures.below (omega (arith, lt, c.max-end.ensures));
+          c.end_bound-load.ensures.within c.end_bound-load.ensures.below (omega (arith, lt, c.max-end.ensures));
     }

@@ -1,12 +1,11 @@
 //! Sheets at their limits, and a sheet that is printed and read again.
-use super::said::assert_said;
 use sheet_text::{print_sheet, read_sheet};
 use std::alloc::{AllocError, Global};
 use std::fmt::Write;
 use std::process::Abort;
 use std::test::Fail;
 use top_cases::files::{CROWD, EIGHT_TASKS, ONE_TASK_CERT};
-use top_cases::{shelf_of, sink_of, words_of};
+use top_cases::{says, shelf_of, sink_of, words_of};
 
 /// A sheet of so many equal tasks, under fp.
 fn equal_tasks(alloc: Global, count: u32) -> Result<String, AllocError> {
@@ -108,7 +107,7 @@ fn assert_words(
     )?;
     let (out, err) = (sink_of(alloc, 262_144)?, sink_of(alloc, 4096)?);
     let said = (said.0, said.1.as_bytes(), said.2.as_bytes());
-    assert_said(rt, alloc, &words, shelf, out, err, said);
+    assert!(rt; says(alloc, &words, shelf, out, err, said));
     Ok(())
 }
 

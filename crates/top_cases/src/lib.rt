@@ -3,8 +3,10 @@
 #![tactic(auto)]
 
 pub mod files;
+mod saying;
 
 use poet_io::{MemShelf, MemSink};
+pub use saying::{first_unsaid, says};
 use std::alloc::{AllocError, Global};
 
 /// Words over the files `s` and `c`, and what the program says to them.

@@ -1,7 +1,7 @@
 //! Rows of `check`.
-use super::cases::{Case, assert_cases};
 use std::test::Fail;
 use top_cases::files::*;
+use top_cases::{Case, first_unsaid};
 
 const WORKED_EXAMPLES: [Case; 14] = [
     Case {
@@ -120,7 +120,7 @@ const WORKED_EXAMPLES: [Case; 14] = [
 
 #[test]
 fn worked_examples(rt: HostRuntime) -> Result<(), Fail> {
-    assert_cases(&rt, rt.alloc(), &WORKED_EXAMPLES)?;
+    assert_eq!(rt; first_unsaid(rt.alloc(), &WORKED_EXAMPLES)?, None);
     Ok(())
 }
 
@@ -217,7 +217,7 @@ const FIRST_FAILED_CONDITIONS: [Case; 11] = [
 
 #[test]
 fn first_failed_conditions(rt: HostRuntime) -> Result<(), Fail> {
-    assert_cases(&rt, rt.alloc(), &FIRST_FAILED_CONDITIONS)?;
+    assert_eq!(rt; first_unsaid(rt.alloc(), &FIRST_FAILED_CONDITIONS)?, None);
     Ok(())
 }
 
@@ -290,7 +290,7 @@ const MALFORMED_CERTIFICATES: [Case; 8] = [
 
 #[test]
 fn malformed_certificates(rt: HostRuntime) -> Result<(), Fail> {
-    assert_cases(&rt, rt.alloc(), &MALFORMED_CERTIFICATES)?;
+    assert_eq!(rt; first_unsaid(rt.alloc(), &MALFORMED_CERTIFICATES)?, None);
     Ok(())
 }
 
@@ -379,6 +379,6 @@ const REFUSED_SHEETS: [Case; 10] = [
 
 #[test]
 fn refused_sheets(rt: HostRuntime) -> Result<(), Fail> {
-    assert_cases(&rt, rt.alloc(), &REFUSED_SHEETS)?;
+    assert_eq!(rt; first_unsaid(rt.alloc(), &REFUSED_SHEETS)?, None);
     Ok(())
 }

@@ -1,7 +1,7 @@
 //! Rows of `simulate`, `audit`, `report` and `exercise`.
-use super::cases::{Case, assert_cases};
 use std::test::Fail;
 use top_cases::files::*;
+use top_cases::{Case, first_unsaid};
 
 const SIMULATED_RUNS: [Case; 9] = [
     Case {
@@ -80,7 +80,7 @@ const SIMULATED_RUNS: [Case; 9] = [
 
 #[test]
 fn simulated_runs(rt: HostRuntime) -> Result<(), Fail> {
-    assert_cases(&rt, rt.alloc(), &SIMULATED_RUNS)?;
+    assert_eq!(rt; first_unsaid(rt.alloc(), &SIMULATED_RUNS)?, None);
     Ok(())
 }
 
@@ -177,7 +177,7 @@ const AUDITED_RUNS: [Case; 11] = [
 
 #[test]
 fn audited_runs(rt: HostRuntime) -> Result<(), Fail> {
-    assert_cases(&rt, rt.alloc(), &AUDITED_RUNS)?;
+    assert_eq!(rt; first_unsaid(rt.alloc(), &AUDITED_RUNS)?, None);
     Ok(())
 }
 
@@ -250,7 +250,7 @@ const REPORTS: [Case; 8] = [
 
 #[test]
 fn reports(rt: HostRuntime) -> Result<(), Fail> {
-    assert_cases(&rt, rt.alloc(), &REPORTS)?;
+    assert_eq!(rt; first_unsaid(rt.alloc(), &REPORTS)?, None);
     Ok(())
 }
 
@@ -275,6 +275,6 @@ const EXERCISES: [Case; 2] = [
 
 #[test]
 fn exercises(rt: HostRuntime) -> Result<(), Fail> {
-    assert_cases(&rt, rt.alloc(), &EXERCISES)?;
+    assert_eq!(rt; first_unsaid(rt.alloc(), &EXERCISES)?, None);
     Ok(())
 }

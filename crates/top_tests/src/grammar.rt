@@ -1,10 +1,10 @@
 //! Words outside the grammar.
-use super::cases::{assert_said, shelf_of, sink_of, words_of};
 use poet_io::MemSink;
 use std::alloc::{AllocError, Global};
 use std::process::Abort;
 use std::test::Fail;
 use top_cases::files::{ONE_TASK, USAGE};
+use top_cases::{says, shelf_of, sink_of, words_of};
 
 const UNREAD: [&str; 31] = [
     "promise",
@@ -43,15 +43,7 @@ const UNREAD: [&str; 31] = [
 fn assert_unread(rt: &impl Abort, alloc: Global, words: &Vec<String>) -> Result<(), AllocError> {
     let shelf = shelf_of(alloc, ONE_TASK.as_bytes(), &[], Vec::new(alloc))?;
     let (out, err) = (sink_of(alloc, 999)?, sink_of(alloc, 999)?);
-    assert_said(
-        rt,
-        alloc,
-        words,
-        shelf,
-        out,
-        err,
-        (2, &[], USAGE.as_bytes()),
-    );
+    assert!(rt; says(alloc, words, shelf, out, err, (2, &[], USAGE.as_bytes())));
     Ok(())
 }
 
@@ -71,6 +63,6 @@ fn a_silent_err_changes_no_status(rt: HostRuntime) -> Result<(), Fail> {
     let shelf = shelf_of(alloc, &[], &[], Vec::new(alloc))?;
     let out = sink_of(alloc, 9)?;
     let err = MemSink::new(alloc, Vec::new(alloc), 9, 0)?;
-    assert_said(&rt, alloc, &Vec::new(alloc), shelf, out, err, (2, &[], &[]));
+    assert!(rt; says(alloc, &Vec::new(alloc), shelf, out, err, (2, &[], &[])));
     Ok(())
 }

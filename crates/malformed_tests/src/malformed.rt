@@ -1,10 +1,9 @@
 //! Files at their limits and past them, and certificates and runs that are not of the format.
-use super::said::assert_said;
 use std::alloc::{AllocError, Global};
 use std::process::Abort;
 use std::test::Fail;
 use top_cases::files::{ONE_TASK, ONE_TASK_CERT};
-use top_cases::{shelf_of, sink_of, words_of};
+use top_cases::{says, shelf_of, sink_of, words_of};
 
 /// `check` of a sheet and a certificate.
 fn assert_check(
@@ -18,7 +17,7 @@ fn assert_check(
     let shelf = shelf_of(alloc, sheet, certificate, Vec::new(alloc))?;
     let (out, err) = (sink_of(alloc, 99)?, sink_of(alloc, 99)?);
     let said = (said.0, said.1.as_bytes(), said.2.as_bytes());
-    assert_said(rt, alloc, &words, shelf, out, err, said);
+    assert!(rt; says(alloc, &words, shelf, out, err, said));
     Ok(())
 }
 
@@ -68,7 +67,7 @@ fn a_trace_at_its_limit_and_past_it(rt: HostRuntime) -> Result<(), Fail> {
         let shelf = shelf_of(alloc, &trace, &[], Vec::new(alloc))?;
         let (out, err) = (sink_of(alloc, 99)?, sink_of(alloc, 99)?);
         let said = (status, b"".as_slice(), line.as_bytes());
-        assert_said(&rt, alloc, &words, shelf, out, err, said);
+        assert!(rt; says(alloc, &words, shelf, out, err, said));
     }
     Ok(())
 }
@@ -122,14 +121,15 @@ fn assert_line(
     let words = words_of(alloc, words)?;
     let shelf = shelf_of(alloc, ONE_TASK.as_bytes(), file.as_bytes(), Vec::new(alloc))?;
     let (out, err) = (sink_of(alloc, 99)?, sink_of(alloc, 99)?);
-    assert_said(
-        rt,
-        alloc,
-        &words,
-        shelf,
-        out,
-        err,
-        (said.0, b"", said.1.as_bytes()),
+    assert!(rt;
+        says(
+            alloc,
+            &words,
+            shelf,
+            out,
+            err,
+            (said.0, b"", said.1.as_bytes())
+        )
     );
     Ok(())
 }

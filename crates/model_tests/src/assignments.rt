@@ -1,7 +1,7 @@
 //! Rows of `assign`.
-use super::cases::{Case, assert_cases};
 use std::test::Fail;
 use top_cases::files::*;
+use top_cases::{Case, first_unsaid};
 
 const ASSIGNMENTS: [Case; 4] = [
     Case {
@@ -48,6 +48,6 @@ const ASSIGNMENTS: [Case; 4] = [
 
 #[test]
 fn assignments(rt: HostRuntime) -> Result<(), Fail> {
-    assert_cases(&rt, rt.alloc(), &ASSIGNMENTS)?;
+    assert_eq!(rt; first_unsaid(rt.alloc(), &ASSIGNMENTS)?, None);
     Ok(())
 }

@@ -1,7 +1,7 @@
 //! Rows of sheets with priority points.
-use super::cases::{Case, assert_cases};
 use std::test::Fail;
 use top_cases::files::TWO_DEADLINES_CERT;
+use top_cases::{Case, first_unsaid};
 
 /// Points that are the deadlines.
 const GEL: &str =
@@ -66,7 +66,7 @@ const CERTIFICATES: [Case; 5] = [
 
 #[test]
 fn certificates(rt: HostRuntime) -> Result<(), Fail> {
-    assert_cases(&rt, rt.alloc(), &CERTIFICATES)?;
+    assert_eq!(rt; first_unsaid(rt.alloc(), &CERTIFICATES)?, None);
     Ok(())
 }
 
@@ -116,7 +116,7 @@ const RUNS: [Case; 5] = [
 
 #[test]
 fn runs(rt: HostRuntime) -> Result<(), Fail> {
-    assert_cases(&rt, rt.alloc(), &RUNS)?;
+    assert_eq!(rt; first_unsaid(rt.alloc(), &RUNS)?, None);
     Ok(())
 }
 
@@ -149,6 +149,6 @@ const REFUSED_SHEETS: [Case; 3] = [
 
 #[test]
 fn refused_sheets(rt: HostRuntime) -> Result<(), Fail> {
-    assert_cases(&rt, rt.alloc(), &REFUSED_SHEETS)?;
+    assert_eq!(rt; first_unsaid(rt.alloc(), &REFUSED_SHEETS)?, None);
     Ok(())
 }

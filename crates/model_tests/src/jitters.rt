@@ -1,7 +1,7 @@
 //! Rows of sheets whose jobs may be released after their arrival.
-use super::cases::{Case, assert_cases};
 use std::test::Fail;
 use top_cases::files::{ONE_TASK, PERIODIC_RUN};
+use top_cases::{Case, first_unsaid};
 
 const JITTER: &str =
     "policy = \"fp\"\n\n[[task]]\nname = \"a\"\ncost = 2\ndeadline = 5\npriority = 1\njitter = 3\nperiod = 5\n";
@@ -193,7 +193,7 @@ const CERTIFICATES: [Case; 19] = [
 
 #[test]
 fn certificates(rt: HostRuntime) -> Result<(), Fail> {
-    assert_cases(&rt, rt.alloc(), &CERTIFICATES)?;
+    assert_eq!(rt; first_unsaid(rt.alloc(), &CERTIFICATES)?, None);
     Ok(())
 }
 
@@ -242,7 +242,7 @@ const REFUSED_SHEETS: [Case; 5] = [
 
 #[test]
 fn refused_sheets(rt: HostRuntime) -> Result<(), Fail> {
-    assert_cases(&rt, rt.alloc(), &REFUSED_SHEETS)?;
+    assert_eq!(rt; first_unsaid(rt.alloc(), &REFUSED_SHEETS)?, None);
     Ok(())
 }
 
@@ -331,6 +331,6 @@ const RUNS: [Case; 10] = [
 
 #[test]
 fn runs(rt: HostRuntime) -> Result<(), Fail> {
-    assert_cases(&rt, rt.alloc(), &RUNS)?;
+    assert_eq!(rt; first_unsaid(rt.alloc(), &RUNS)?, None);
     Ok(())
 }

@@ -1,5 +1,4 @@
 //! Rows of `infer`, and curves of simulated arrivals.
-use super::cases::{Case, assert_cases};
 use curve_infer::{Trace, infer};
 use policy::Fp;
 use preemption::PerTask;
@@ -11,6 +10,7 @@ use std::alloc::{AllocError, Global};
 use std::test::Fail;
 use task_sheet::Sheet;
 use top_cases::files::EIGHT_TASKS;
+use top_cases::{Case, first_unsaid};
 
 const FOUR_ARRIVALS: &str = "poet-trace 1\narrivals 4\na 0\na 0\na 4\na 5\nend\n";
 
@@ -60,7 +60,7 @@ const INFERRED: [Case; 5] = [
 
 #[test]
 fn inferred_curves(rt: HostRuntime) -> Result<(), Fail> {
-    assert_cases(&rt, rt.alloc(), &INFERRED)?;
+    assert_eq!(rt; first_unsaid(rt.alloc(), &INFERRED)?, None);
     Ok(())
 }
 
@@ -118,7 +118,7 @@ const REFUSED: [Case; 6] = [
 
 #[test]
 fn refused_traces(rt: HostRuntime) -> Result<(), Fail> {
-    assert_cases(&rt, rt.alloc(), &REFUSED)?;
+    assert_eq!(rt; first_unsaid(rt.alloc(), &REFUSED)?, None);
     Ok(())
 }
 

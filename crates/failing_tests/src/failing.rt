@@ -1,11 +1,10 @@
 //! Files and sinks that fail at each of their calls in turn, and files that come slowly.
-use super::said::assert_said;
 use poet_io::{MemShelf, MemSink};
 use std::alloc::{AllocError, Global};
 use std::process::Abort;
 use std::test::Fail;
 use top_cases::files::*;
-use top_cases::{files_of, shelf_of, sink_of, words_of};
+use top_cases::{files_of, says, shelf_of, sink_of, words_of};
 
 /// Words over the files `s` and `c`, what the program says to them, and what it calls these files.
 struct Row {
@@ -144,19 +143,11 @@ fn assert_call(rt: &impl Abort, alloc: Global, row: &Row, call: usize) -> Result
     match row.names.get(call / CALLS) {
         Some(name) => {
             let line = format!(in alloc; "read failed: {name}\n")?;
-            assert_said(
-                rt,
-                alloc,
-                &words,
-                shelf,
-                out,
-                err,
-                (3, b"", line.as_bytes()),
-            );
+            assert!(rt; says(alloc, &words, shelf, out, err, (3, b"", line.as_bytes())));
         }
         None => {
             let said = (row.status, row.out.as_bytes(), b"".as_slice());
-            assert_said(rt, alloc, &words, shelf, out, err, said);
+            assert!(rt; says(alloc, &words, shelf, out, err, said));
         }
     }
     Ok(())
@@ -183,7 +174,7 @@ fn assert_write(rt: &impl Abort, alloc: Global, row: &Row, write: usize) -> Resu
         Some(front) if write < row.out.len() => (4, front, b"write failed\n".as_slice()),
         _ => (row.status, row.out.as_bytes(), b"".as_slice()),
     };
-    assert_said(rt, alloc, &words, shelf, out, err, said);
+    assert!(rt; says(alloc, &words, shelf, out, err, said));
     Ok(())
 }
 
@@ -204,7 +195,7 @@ fn assert_slow(rt: &impl Abort, alloc: Global, row: &Row, most: usize) -> Result
     let shelf = MemShelf::slow(files, Vec::new(alloc), most.max(1));
     let (out, err) = (sink_of(alloc, 4096)?, sink_of(alloc, 99)?);
     let said = (row.status, row.out.as_bytes(), b"".as_slice());
-    assert_said(rt, alloc, &words, shelf, out, err, said);
+    assert!(rt; says(alloc, &words, shelf, out, err, said));
     Ok(())
 }
 

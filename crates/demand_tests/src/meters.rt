@@ -2,6 +2,7 @@
 ghost use Rattle.std.specs.Prelude.{◌≡◌, ◌≤◌, ◌<◌};
 ghost use Rattle.meter.specs.Meters.{meter_at};
 
+use crate::assert_same;
 use meter::Meter;
 use policy::{Edf, Fp, Policy};
 use preemption::{PerTask, Preemption};
@@ -35,37 +36,69 @@ fn moved<P: Policy, M: Preemption>(meter: &mut Meter<'_, P, M>, a: u64, x: u64) 
     meter.need()
 }
 
+/// The first needs of `a`. From offset 2 on a job of `b` counts, from end 1 on.
+fn early_needs(meter: &mut Meter<'_, Edf, PerTask>) -> [u128; 5]
+    requires { meter.old.offset ≡ 0 }
+    ensures { meter.new ≡ meter_at meter.old.sheet meter.old.task 2 1 }
+{
+    [
+        meter.need(),
+        moved(meter, 0, 2),
+        moved(meter, 2, 4),
+        moved(meter, 2, 0),
+        moved(meter, 2, 1),
+    ]
+}
+
+/// The later needs of `a`.
+fn late_needs(meter: &mut Meter<'_, Edf, PerTask>) -> [u128; 3]
+    requires { meter.old.offset ≤ 8 }
+    ensures { meter.new ≡ meter_at meter.old.sheet meter.old.task 8 7 }
+{
+    [moved(meter, 8, 20), moved(meter, 8, 5), moved(meter, 8, 7)]
+}
+
+/// The needs of `b`.
+fn other_needs(meter: &mut Meter<'_, Edf, PerTask>) -> [u128; 4]
+    requires { meter.old.offset ≡ 0 }
+{
+    [
+        meter.need(),
+        moved(meter, 0, 4),
+        moved(meter, 2, 4),
+        moved(meter, 2, 5),
+    ]
+}
+
 #[test]
 fn two_deadlines(rt: HostRuntime) -> Result<(), Fail> {
     let sheet = sheet_of(rt.alloc(), TWO_DEADLINES)?;
     assert_eq!(rt; sheet.len(), 2);
     let mut meter = Meter::<Edf, PerTask>::new(rt.alloc(), &sheet)?;
-    assert_eq!(rt; meter.next_point(4), Some(2));
-    // From offset 2 of `a` on a job of `b` counts, from end 1 on.
-    let of_a = [
-        meter.need(),
-        moved(&mut meter, 0, 2),
-        moved(&mut meter, 2, 4),
-        moved(&mut meter, 2, 0),
-        moved(&mut meter, 2, 1),
-        moved(&mut meter, 8, 20),
-        moved(&mut meter, 8, 5),
-        moved(&mut meter, 8, 7),
-    ];
-    assert_eq!(rt; of_a.as_slice(), [2, 2, 4, 2, 4, 10, 8, 10].as_slice());
-    assert_eq!(rt; meter.next_point(100), Some(12));
-    assert_eq!(rt; meter.next_point(12), None);
+    let first = meter.next_point(4);
+    let needs = (early_needs(&mut meter), late_needs(&mut meter));
+    let last = [meter.next_point(100), meter.next_point(12)];
+    assert_same(&rt, &first, &Some(2));
+    assert_same(&rt, &needs, &([2, 2, 4, 2, 4], [10, 8, 10]));
+    assert_same(&rt, &last, &[Some(12), None]);
 
     meter.open(1);
-    assert_eq!(rt; meter.next_point(4), Some(2));
-    let of_b = [
-        meter.need(),
-        moved(&mut meter, 0, 4),
-        moved(&mut meter, 2, 4),
-        moved(&mut meter, 2, 5),
-    ];
-    assert_eq!(rt; of_b.as_slice(), [2, 4, 4, 6].as_slice());
+    let found = (meter.next_point(4), other_needs(&mut meter));
+    assert_same(&rt, &found, &(Some(2), [2, 4, 4, 6]));
     Ok(())
+}
+
+/// The needs of the task that is never preempted. Its own segments do not block it, and its last tick is
+/// not demand.
+fn blocking_needs(meter: &mut Meter<'_, Fp, PerTask>) -> [u128; 4]
+    requires { meter.old.offset ≡ 0 }
+{
+    [
+        meter.need(),
+        moved(meter, 0, 2),
+        moved(meter, 6, 5),
+        moved(meter, 6, 4),
+    ]
 }
 
 #[test]
@@ -73,19 +106,12 @@ fn never_preempted(rt: HostRuntime) -> Result<(), Fail> {
     let sheet = sheet_of(rt.alloc(), NEVER_PREEMPTED)?;
     assert_eq!(rt; sheet.len(), 2);
     let mut meter = Meter::<Fp, PerTask>::new(rt.alloc(), &sheet)?;
-    let of_a = [meter.need(), moved(&mut meter, 4, 1)];
-    assert_eq!(rt; of_a.as_slice(), [2, 3].as_slice());
+    let found = [meter.need(), moved(&mut meter, 4, 1)];
+    assert_same(&rt, &found, &[2, 3]);
 
-    // Its own segments do not block `b`, and its last tick is not demand.
     meter.open(1);
-    assert_eq!(rt; meter.next_point(100), Some(6));
-    let of_b = [
-        meter.need(),
-        moved(&mut meter, 0, 2),
-        moved(&mut meter, 6, 5),
-        moved(&mut meter, 6, 4),
-    ];
-    assert_eq!(rt; of_b.as_slice(), [1, 2, 5, 4].as_slice());
+    let found = (meter.next_point(100), blocking_needs(&mut meter));
+    assert_same(&rt, &found, &(Some(6), [1, 2, 5, 4]));
     Ok(())
 }
 
@@ -98,6 +124,6 @@ fn blocked_early(rt: HostRuntime) -> Result<(), Fail> {
         moved(&mut meter, 1, 4),
         moved(&mut meter, 2, 4),
     ];
-    assert_eq!(rt; found.as_slice(), [3, 3, 4].as_slice());
+    assert_same(&rt, &found, &[3, 3, 4]);
     Ok(())
 }

@@ -1,4 +1,5 @@
 //! Worked numbers of demand: two of eight tasks, caps below 0, and jitters.
+use crate::assert_same;
 use demand::{blocking, need, others, own, rest, window_need};
 use policy::{Edf, Fifo, Fp};
 use preemption::PerTask;
@@ -16,7 +17,7 @@ task = [
 fn eight_tasks(rt: HostRuntime) -> Result<(), Fail> {
     let sheet = sheet_of(rt.alloc(), EIGHT_TASKS)?;
     assert_eq!(rt; sheet.len(), 8);
-    assert_eq!(rt; rest::<PerTask>(&sheet, 6), 499);
+    assert_same(&rt, &rest::<PerTask>(&sheet, 6), &499);
     let display = [
         own::<PerTask>(&sheet, 6, 0),
         others::<Fp>(&sheet, 6, 0, 9941),
@@ -24,13 +25,13 @@ fn eight_tasks(rt: HostRuntime) -> Result<(), Fail> {
         need::<Fp, PerTask>(&sheet, 6, 0, 9941),
         window_need::<Fp, PerTask>(&sheet, 6, 13140),
     ];
-    assert_eq!(rt; display.as_slice(), [3501, 6440, 0, 9941, 13140].as_slice());
+    assert_same(&rt, &display, &[3501, 6440, 0, 9941, 13140]);
     // The longest segment of a lower task, of 500, blocks the first task.
     let motor = [
         blocking::<Fp, PerTask>(&sheet, 0, 0),
         window_need::<Fp, PerTask>(&sheet, 0, 619),
     ];
-    assert_eq!(rt; motor.as_slice(), [499, 619].as_slice());
+    assert_same(&rt, &motor, &[499, 619]);
     Ok(())
 }
 
@@ -47,7 +48,7 @@ fn caps_below_zero(rt: HostRuntime) -> Result<(), Fail> {
         others::<Edf>(&sheet, 1, 0, 1000),
         others::<Edf>(&sheet, 1, 0, 90),
     ];
-    assert_eq!(rt; found.as_slice(), [0, 0, 3, 10, 9].as_slice());
+    assert_same(&rt, &found, &[0, 0, 3, 10, 9]);
     Ok(())
 }
 
@@ -85,7 +86,7 @@ fn jitter_blocks(rt: HostRuntime) -> Result<(), Fail> {
         blocking::<Fifo, PerTask>(&sheet, 0, 2),
         need::<Fifo, PerTask>(&sheet, 0, 0, 6),
     ];
-    assert_eq!(rt; of_u.as_slice(), [6, 6, 2, 0, 6].as_slice());
+    assert_same(&rt, &of_u, &[6, 6, 2, 0, 6]);
     let of_v = [
         window_need::<Fifo, PerTask>(&sheet, 1, 4),
         blocking::<Fifo, PerTask>(&sheet, 1, 0),
@@ -94,7 +95,7 @@ fn jitter_blocks(rt: HostRuntime) -> Result<(), Fail> {
         others::<Fifo>(&sheet, 1, 0, 2),
         need::<Fifo, PerTask>(&sheet, 1, 0, 2),
     ];
-    assert_eq!(rt; of_v.as_slice(), [4, 0, 1, 1, 2].as_slice());
-    assert_eq!(rt; rest::<PerTask>(&sheet, 1), 2);
+    assert_same(&rt, &of_v, &[4, 0, 1, 1, 2]);
+    assert_same(&rt, &rest::<PerTask>(&sheet, 1), &2);
     Ok(())
 }

@@ -1,5 +1,6 @@
 //! Sheets at their limits, and a sheet that is printed and read again.
-use sheet_text::{print_sheet, read_sheet};
+use sheet_print::print_sheet;
+use sheet_text::read_sheet;
 use std::alloc::{AllocError, Global};
 use std::fmt::Write;
 use std::process::Abort;
@@ -17,6 +18,27 @@ fn equal_tasks(alloc: Global, count: u32) -> Result<String, AllocError> {
         )?;
         text.push_str("priority = 1\nperiod = 512\n")?;
     }
+    Ok(text)
+}
+
+/// A sheet of a hundred equal tasks that together fill the longest window there may be.
+fn hundred_long_tasks(alloc: Global) -> Result<String, AllocError> {
+    let mut text = String::from_str(alloc, "policy = \"fp\"\n")?;
+    for i in 0..100u32 {
+        write!(text, "\n[[task]]\nname = \"t{i}\"\ncost = 10000000\n")?;
+        text.push_str("deadline = 1000000000\npriority = 1\nperiod = 1000000000\n")?;
+    }
+    Ok(text)
+}
+
+/// The longest window for each of them, which is its bound and the end of its only point too.
+fn hundred_long_entries(alloc: Global) -> Result<String, AllocError> {
+    let mut text = String::from_str(alloc, "poet-cert 1\ntasks 100\n")?;
+    for i in 0..100u32 {
+        write!(text, "task {i} 1000000000 1000000000 1\n")?;
+        text.push_str("p 0 1000000000\n")?;
+    }
+    text.push_str("end\n")?;
     Ok(text)
 }
 
@@ -120,6 +142,17 @@ fn as_many_tasks_as_there_may_be(rt: HostRuntime) -> Result<(), Fail> {
     assert_words(&rt, alloc, "check s c", files, (0, lines.as_str(), ""))?;
     let said = (0, certificate.as_str(), "");
     assert_words(&rt, alloc, "analyse s 1000", files, said)?;
+    Ok(())
+}
+
+/// A search that tried each window one after the other would not end within a test's time.
+#[test]
+fn a_hundred_long_tasks(rt: HostRuntime) -> Result<(), Fail> {
+    let alloc = rt.alloc();
+    let (sheet, certificate) = (hundred_long_tasks(alloc)?, hundred_long_entries(alloc)?);
+    let said = (0, certificate.as_str(), "");
+    let files = (sheet.as_str(), "");
+    assert_words(&rt, alloc, "analyse s 1000000000", files, said)?;
     Ok(())
 }
 

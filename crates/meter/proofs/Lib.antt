@@ -1,8 +1,8 @@
 pub mod CapFacts
 pub mod ChangeFacts
-pub mod SetFacts
 pub mod PlaceFacts
 pub mod SoonestFacts
+pub mod EndFacts
 pub mod NeedFacts
 pub mod BlockerFacts
 pub mod NextFacts

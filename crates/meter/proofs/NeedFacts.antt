@@ -1,4 +1,4 @@
-use Rattle.std.proofs.Common.{◌≡◌, ◌≢◌, ℕ, ◌+◌, ◌-◌, ◌*◌, ◌≤◌, ◌<◌, Bool, cond, List, length, min, ap, inl, inr, arith, refl, sym, ◌∙◌, eq-eqb}
+use Rattle.std.proofs.Common.{◌≡◌, ◌≢◌, ℕ, ◌+◌, ◌-◌, ◌*◌, ◌≤◌, ◌<◌, Bool, cond, List, length, min, ap, inl, inr, arith, refl, sym, ◌∙◌, subst, eq-eqb}
 use Rattle.std.proofs.lemmas.Bool.{ne_eqb, cases_lt}
 use Rattle.curve.specs.CurveValue.{Curve}
 use Rattle.curve.specs.Curves.{alpha_of}
@@ -17,9 +17,10 @@ use Rattle.demand.specs.Demand.{capped_count, rest_of, own_of, other_of, others_
 use Rattle.demand.proofs.DemandFacts.{rest_fits}
 use Rattle.meter.specs.declared.tracks.Place.{Place}
 use Rattle.meter.specs.declared.tracks.Tracks.{Tracks}
-use Rattle.meter.specs.Places.{place_of, counted_of, asked_of}
+use Rattle.meter.specs.Places.{place_of, kind_of, counted_by, counted_of, asked_of}
 use Rattle.meter.specs.Tracking.{AreSeated}
 use Rattle.meter.proofs.PlaceFacts.{sum_changed}
+use Rattle.meter.proofs.EndFacts.{counted_right}
 
 -- of the jobs up to two lengths, those up to the smaller
 count_min : (curve : Curve) → IsCurve curve → (x y : ℕ) → min (alpha_of curve x) (alpha_of curve y) ≡ alpha_of curve (min x y)
@@ -33,17 +34,17 @@ count_min curve ok x y = elim (cases_lt x y) [
 ]
 
 -- by the kind of an earlier cap
-counted_is : (curve : Curve) → IsCurve curve → (jitter x : ℕ) (c d : Cap) → GrowsTo c d → (place : Place) →
-    place.end.value ≡ alpha_of curve (x + jitter) → place.count ≡ cap_count curve d → counted_of c place ≡ capped_count curve jitter d x
-counted_is curve ok jitter x Nothing Nothing h place e f = refl
-counted_is curve ok jitter x All All h place e f = e
-counted_is curve ok jitter x (At c) (At d) h place e f = omega (arith, e, f, count_min curve ok (x + jitter) (not_below_zero d))
-counted_is curve ok jitter x Nothing (At d) h place e f = absurd h
-counted_is curve ok jitter x Nothing All h place e f = absurd h
-counted_is curve ok jitter x (At c) Nothing h place e f = absurd h
-counted_is curve ok jitter x (At c) All h place e f = absurd h
-counted_is curve ok jitter x All Nothing h place e f = absurd h
-counted_is curve ok jitter x All (At d) h place e f = absurd h
+counted_is : (curve : Curve) → IsCurve curve → (jitter x count : ℕ) (c d : Cap) → GrowsTo c d → count ≡ cap_count curve d →
+    counted_by c (alpha_of curve (x + jitter)) count ≡ capped_count curve jitter d x
+counted_is curve ok jitter x count Nothing Nothing h e = refl
+counted_is curve ok jitter x count All All h e = refl
+counted_is curve ok jitter x count (At c) (At d) h e = omega (arith, e, count_min curve ok (x + jitter) (not_below_zero d))
+counted_is curve ok jitter x count Nothing (At d) h e = absurd h
+counted_is curve ok jitter x count Nothing All h e = absurd h
+counted_is curve ok jitter x count (At c) Nothing h e = absurd h
+counted_is curve ok jitter x count (At c) All h e = absurd h
+counted_is curve ok jitter x count All Nothing h e = absurd h
+counted_is curve ok jitter x count All (At d) h e = absurd h
 
 module _ (p : PolicyMeaning) (m : CutMeaning) (sheet : SheetParts) (ok : IsValidSheet sheet) (lawful : IsLawfulPolicy p sheet)
     (i a x : ℕ) (in_i : i < length sheet.tasks) (t : Tracks) (is : AreSeated p sheet i a x t) where
@@ -60,22 +61,26 @@ module _ (p : PolicyMeaning) (m : CutMeaning) (sheet : SheetParts) (ok : IsValid
       let counted = is.counted.each i in_i in
       let count = counted.is ∙ ap (λ (b : Bool). cond b (alpha_of (task_at sheet i).curve (a + 1 + (task_at sheet i).jitter))
       (cap_count (task_at sheet i).curve (p.cap sheet i i a))) (eq-eqb i i refl) in
-      ap (λ (b : Bool). cost * cond b place.count (counted_of (p.cap sheet i i 0) place)) (eq-eqb i i refl) ∙ ap (λ (w : ℕ). cost * w) count
+      ap (λ (b : Bool). cost * cond b place.count (counted_of (kind_of p sheet i i) place)) (eq-eqb i i refl) ∙ ap (λ (w : ℕ). cost * w) count
 
   other_asked : (o : ℕ) → o < length sheet.tasks → o ≢ i → other_of p sheet i a x o ≡ asked_of p sheet i places o
   other_asked o b ne =
       let task = task_at sheet o in
       let curve = task.curve in
       let place = place_of places o in
-      let stair = is.ended o b in
-      let value = sym (stair.flat (x + task.jitter) stair.begun stair.open_yet) in
+      let keyed = is.tracking.each o b in
+      let ended = is.ended o b in
+      let until = subst (λ w. x < w) keyed.until_is ended.open_yet in
+      let right = counted_right curve (ok.each o b).curve (kind_of p sheet i o) place keyed.near.at keyed.near.stair task.jitter x ended.begun until in
+      let kind : kind_of p sheet i o ≡ p.cap sheet i o 0 = ap (λ (w : Bool). cond w Nothing (p.cap sheet i o 0)) (ne_eqb o i ne) in
       let counted = is.counted.each o b in
       let count = counted.is ∙ ap (λ (b : Bool). cond b (alpha_of (task_at sheet i).curve (a + 1 + (task_at sheet i).jitter))
       (cap_count curve (p.cap sheet i o a))) (ne_eqb o i ne) in
-      let same = counted_is curve (ok.each o b).curve task.jitter x (p.cap sheet i o 0) (p.cap sheet i o a)
-      (lawful.cap_grows i o 0 a in_i b (λ e. ne (sym e)) (omega arith)) place value count in
+      let same = right ∙ ap (λ (c : Cap). counted_by c (alpha_of curve (x + task.jitter)) place.count) kind ∙
+      counted_is curve (ok.each o b).curve task.jitter x place.count (p.cap sheet i o 0) (p.cap sheet i o a)
+      (lawful.cap_grows i o 0 a in_i b (λ e. ne (sym e)) (omega arith)) count in
       ap (λ (w : Bool). cond w 0 (task.cost * capped_count curve task.jitter (p.cap sheet i o a) x)) (ne_eqb o i ne)
-      ∙ sym (ap (λ (w : Bool). task.cost * cond w place.count (counted_of (p.cap sheet i o 0) place)) (ne_eqb o i ne) ∙ ap (λ (w : ℕ). task.cost * w) same)
+      ∙ sym (ap (λ (w : Bool). task.cost * cond w place.count (counted_of (kind_of p sheet i o) place)) (ne_eqb o i ne) ∙ ap (λ (w : ℕ). task.cost * w) same)
 
   whole_is : t.sum ≡ own + others_of p sheet i a x
   unfolding others_of

@@ -1,5 +1,5 @@
-use Rattle.std.proofs.Common.{◌≡◌, ◌≢◌, ℕ, zero, suc, ◌+◌, ◌*◌, ◌^◌, ◌≤◌, ◌<◌, ◌==◌, Bool, true, false, cond, List, length, set, ap, inl, inr, arith, sym, ◌∙◌, eq-eqb}
-use Rattle.std.proofs.lemmas.Bool.{cases_eq, cases_lt}
+use Rattle.std.proofs.Common.{◌≡◌, ◌≢◌, ℕ, zero, suc, ◌+◌, ◌*◌, ◌^◌, ◌≤◌, ◌<◌, ◌==◌, Bool, true, false, cond, List, length, set, ap, inl, inr, arith}
+use Rattle.std.proofs.lemmas.Bool.{cases_lt}
 use Rattle.std.proofs.lemmas.List.{get_or-set_same, get_or-set_other}
 use Rattle.std.proofs.Math.Nat.{mul-le-mul_left}
 use Rattle.lists.specs.Sums.{sum_below}
@@ -16,7 +16,7 @@ use Rattle.policy.specs.declared.keys.Cap.{Cap}
 use Rattle.policy.specs.declared.keys.Cap.TheVariants.{Nothing, At, All}
 use Rattle.policy.specs.PolicyMeaning.{PolicyMeaning}
 use Rattle.meter.specs.declared.tracks.Place.{Place}
-use Rattle.meter.specs.Places.{no_place, place_of, counted_of, part_of, asked_of, IsSmall, IsNear, AreNear}
+use Rattle.meter.specs.Places.{no_place, place_of, kind_of, counted_of, part_of, asked_of, IsSmall, IsNear, AreNear}
 
 stair_bound : (c : Curve) → IsCurve c → (s : Stair) (d : ℕ) → IsStair c s d → s.value ≤ (d + 1) * 1000000
 stair_bound c ok s d stair = omega (arith, stair.flat d stair.begun stair.open_yet, alpha_bound c ok d)
@@ -60,20 +60,7 @@ module _ (p : PolicyMeaning) (sheet : SheetParts) (i : ℕ) (places : List Place
     ap (part_of p sheet i o) (get_or-set_same places o place no_place (omega (arith, near.count))),
   )
 
--- what a task asks for, by the kind of its cap
-pub part_is : (p : PolicyMeaning) (sheet : SheetParts) (i o : ℕ) (place : Place) (cap : Cap) (cost count : ℕ) → cost ≡ (task_at sheet o).cost →
-    (i ≢ o → cap ≡ p.cap sheet i o 0) → count ≡ cond (o == i) place.count (counted_of cap place) → cost * count ≡ part_of p sheet i o place
-part_is p sheet i o place cap cost count ec kind e =
-    let other = counted_of (p.cap sheet i o 0) place in
-    let same : cond (o == i) place.count (counted_of cap place) ≡ cond (o == i) place.count other = elim (cases_eq i o) [
-      | inl q ↦
-          let own : (o == i) ≡ true = eq-eqb o i (sym q) in
-          ap (λ (b : Bool). cond b place.count (counted_of cap place)) own ∙ sym (ap (λ (b : Bool). cond b place.count other) own)
-      | inr ne ↦ ap (λ (c : Cap). cond (o == i) place.count (counted_of c place)) (kind ne)
-    ] in
-    ap (λ (w : ℕ). w * count) ec ∙ ap (λ (w : ℕ). (task_at sheet o).cost * w) (e ∙ same)
-
-counted_le : (c : Cap) (place : Place) → counted_of c place ≤ place.end.value
+counted_le : (kind : Cap) (place : Place) → counted_of kind place ≤ place.end.value
 counted_le Nothing place = omega arith
 counted_le (At c) place = omega arith
 counted_le All place = omega arith
@@ -85,8 +72,8 @@ chosen_high false m n h l = l
 pub part_high : (p : PolicyMeaning) (sheet : SheetParts) → IsValidSheet sheet → (i o : ℕ) → o < length sheet.tasks →
     (place : Place) → IsSmall place → part_of p sheet i o place ≤ 2 ^ 83
 part_high p sheet ok i o b place is =
-    let jobs = chosen_high (o == i) place.count (counted_of (p.cap sheet i o 0) place) is.count
-    (omega (arith, counted_le (p.cap sheet i o 0) place, is.value)) in
+    let jobs = chosen_high (o == i) place.count (counted_of (kind_of p sheet i o) place) is.count
+    (omega (arith, counted_le (kind_of p sheet i o) place, is.value)) in
     omega (arith, mul-le-mul_left (task_at sheet o).cost jobs, (ok.each o b).cost_high)
 
 pub sum_high : (p : PolicyMeaning) (sheet : SheetParts) → IsValidSheet sheet → (i : ℕ) (places : List Place) →

@@ -1,8 +1,7 @@
 -- One task at another place.
-use Rattle.std.proofs.Common.{◌≡◌, ℕ, ◌+◌, ◌-◌, ◌≤◌, ◌<◌, min, List, length, set, replicate, ap, arith, refl, sym, ◌∙◌, subst}
+use Rattle.std.proofs.Common.{◌≡◌, ◌≢◌, ℕ, ◌+◌, ◌<◌, List, length, set, replicate, ap, arith, refl, sym, ◌∙◌, subst}
 use Rattle.std.proofs.lemmas.List.{length-set, get_or-set_same, get_or-set_other, length-replicate, get_or-replicate}
 use Rattle.lists.specs.Sums.{sum_below}
-use Rattle.curve.specs.declared.prefix.Stair.{Stair}
 use Rattle.curve.specs.CurveValue.{Curve}
 use Rattle.curve.specs.Curves.{alpha_of}
 use Rattle.curve.specs.Validity.{IsCurve}
@@ -15,144 +14,112 @@ use Rattle.meter.specs.declared.tracks.Place.{Place}
 use Rattle.meter.specs.declared.tracks.Tracks.{Tracks}
 use Rattle.meter.specs.Soonests.{number_of}
 use Rattle.meter.specs.Changes.{IsCounted}
-use Rattle.meter.specs.Places.{no_place, place_of, part_of, asked_of, IsSmall, IsNear, AreNear}
-use Rattle.meter.proofs.PlaceFacts.{small}
-use Rattle.meter.specs.Tracking.{IsTracking, IsTrackingAt, HasBegun, IsOpen, KeepCounts, KeepEnds, IsCountedAt, IsEndMoved, IsRecounted, IsReady, IsSeated, IsSeatedAt, IsSettled}
-use Rattle.meter.proofs.MoveFacts.{end_tracking, end_at, end_counts, count_tracking, count_at, count_others, count_ends, settled_at, settled_others}
-use Rattle.meter.proofs.MoveFacts.{settled_near}
+use Rattle.meter.specs.Places.{no_place, place_of, kind_of, until_by, part_of, asked_of, IsNear}
+use Rattle.meter.specs.Tracking.{IsKeyed, IsTrackingAt, IsEnded, IsMovedOnly, IsStood, IsEndMoved, IsReady, IsSeated, IsSettled}
+use Rattle.meter.proofs.MoveFacts.{other_now, each_now}
 
--- the stair of task o, moved to the end x
-pub end_moved : (p : PolicyMeaning) (sheet : SheetParts) (i x o : ℕ) → x ≤ 1000000000 → o < length sheet.tasks →
-    (task_at sheet o).jitter ≤ 1000000000 → (t new : Tracks) → IsTrackingAt p sheet i t →
-    (end : Stair) → IsStair (task_at sheet o).curve end (x + (task_at sheet o).jitter) →
-    new.places.items ≡ set t.places.items o (record { end = end; count = (place_of t.places.items o).count }) →
-    new.untils ≡ set t.untils o (min (end.until - (task_at sheet o).jitter) 2000000000) → new.changes ≡ t.changes →
-    new.sum ≡ sum_below (asked_of p sheet i new.places.items) (length sheet.tasks) → IsEndMoved p sheet i x o t new
-end_moved p sheet i x o high b low t new tracking end stair ep eu ec es =
-    let places = t.places.items in
-    let place : Place = record { end = end; count = (place_of places o).count } in
-    let until = min (end.until - (task_at sheet o).jitter) 2000000000 in
-    let sum : new.sum ≡ sum_below (asked_of p sheet i (set places o place)) (length sheet.tasks) = es ∙
-    ap (λ (ps : List Place). sum_below (asked_of p sheet i ps) (length sheet.tasks)) ep in
-    let moved = end_tracking p sheet i x high places t.untils t.sum tracking o b low end stair until new.sum refl sum in
+-- task o was put at a place, which is that of the end x
+record IsPut (p : PolicyMeaning) (sheet : SheetParts) (i x o : ℕ) (place : Place) (t new : Tracks) : Type 0 where
+  is : place_of new.places.items o ≡ place
+  keyed : IsKeyed (task_at sheet o) (kind_of p sheet i o) (place_of new.places.items o) (number_of new.untils o)
+  ended : IsEnded (task_at sheet o) x (place_of new.places.items o) (number_of new.untils o)
+  others : IsMovedOnly o t new
+  count : length new.places.items ≡ length t.places.items
+  full : length new.untils ≡ length t.untils
+
+is_put : (p : PolicyMeaning) (sheet : SheetParts) (i x o until : ℕ) (place : Place) → IsKeyed (task_at sheet o) (kind_of p sheet i o) place until →
+    IsEnded (task_at sheet o) x place until → (t new : Tracks) → o < length t.places.items → o < length t.untils →
+    new.places.items ≡ set t.places.items o place → new.untils ≡ set t.untils o until → IsPut p sheet i x o place t new
+is_put p sheet i x o until place keyed ended t new in_places in_untils ep eu =
+    let is : place_of new.places.items o ≡ place =
+    ap (λ (ps : List Place). place_of ps o) ep ∙ get_or-set_same t.places.items o place no_place in_places in
+    let until_is : number_of new.untils o ≡ until = ap (λ (us : List ℕ). number_of us o) eu ∙ get_or-set_same t.untils o until 0 in_untils in
+    let there : (P : Place → ℕ → Type 0) → P place until → P (place_of new.places.items o) (number_of new.untils o) =
+    λ P h. subst (λ (s : Place). P s (number_of new.untils o)) (sym is) (subst (P place) (sym until_is) h) in
     record {
-      tracking =
-          subst (λ (ps : List Place). IsTracking p sheet i ps new.untils new.sum) (sym ep)
-          (subst (λ (us : List ℕ). IsTracking p sheet i (set places o place) us new.sum) (sym eu) moved);
-      at = subst (λ (ps : List Place). IsStair (task_at sheet o).curve (place_of ps o).end (x + (task_at sheet o).jitter))
-          (sym ep) (end_at p sheet i x high places t.untils t.sum tracking o b low end stair);
-      others = λ k ne. ap (λ (ps : List Place). place_of ps k) ep ∙ get_or-set_other places o k place no_place ne;
-      counts = subst (λ (ps : List Place). KeepCounts places ps) (sym ep)
-          (end_counts p sheet i x high places t.untils t.sum tracking o b low end stair);
+      is = is;
+      keyed = there (IsKeyed (task_at sheet o) (kind_of p sheet i o)) keyed;
+      ended = there (IsEnded (task_at sheet o) x) ended;
+      others = record {
+        places = λ k ne. ap (λ (ps : List Place). place_of ps k) ep ∙ get_or-set_other t.places.items o k place no_place ne;
+        untils = λ k ne. ap (λ (us : List ℕ). number_of us k) eu ∙ get_or-set_other t.untils o k until 0 ne;
+      };
+      count = ap (λ (ps : List Place). length ps) ep ∙ length-set t.places.items o place;
+      full = ap (λ (us : List ℕ). length us) eu ∙ length-set t.untils o until;
+    }
+
+-- by the end that the place tells
+put_there : (p : PolicyMeaning) (sheet : SheetParts) (i x o : ℕ) (place : Place) → IsNear (task_at sheet o) place →
+    IsEnded (task_at sheet o) x place (until_by (kind_of p sheet i o) place (task_at sheet o).jitter) → (t new : Tracks) →
+    o < length t.places.items → o < length t.untils → new.places.items ≡ set t.places.items o place →
+    new.untils ≡ set t.untils o (until_by (kind_of p sheet i o) place (task_at sheet o).jitter) → IsPut p sheet i x o place t new
+put_there p sheet i x o place near ended t new in_places in_untils ep eu =
+    is_put p sheet i x o (until_by (kind_of p sheet i o) place (task_at sheet o).jitter) place (record { near = near; until_is = refl }) ended t new
+    in_places in_untils ep eu
+
+pub stood : (p : PolicyMeaning) (sheet : SheetParts) (i x o : ℕ) → o < length sheet.tasks → (place : Place) → IsNear (task_at sheet o) place →
+    IsEnded (task_at sheet o) x place (until_by (kind_of p sheet i o) place (task_at sheet o).jitter) → (t new : Tracks) →
+    IsTrackingAt p sheet i t → new.places.items ≡ set t.places.items o place →
+    new.untils ≡ set t.untils o (until_by (kind_of p sheet i o) place (task_at sheet o).jitter) → new.changes ≡ t.changes →
+    new.sum ≡ sum_below (asked_of p sheet i new.places.items) (length sheet.tasks) → IsStood p sheet i x o place.count t new
+stood p sheet i x o b place near ended t new tracking ep eu ec es =
+    let put = put_there p sheet i x o place near ended t new (omega (arith, tracking.count)) (omega (arith, tracking.full)) ep eu in
+    record {
+      tracking = record {
+        count = put.count ∙ tracking.count;
+        full = put.full ∙ tracking.full;
+        each = λ k l. each_now (λ k place until. IsKeyed (task_at sheet k) (kind_of p sheet i k) place until) o k t new put.others put.keyed
+            (λ ne. tracking.each k l);
+        sum_is = es;
+      };
+      ended = put.ended;
+      count_is = ap (λ (s : Place). s.count) put.is;
+      others = put.others;
       changes = ec;
     }
 
--- the stair of task o, which stands at the end x
-pub end_stays : (p : PolicyMeaning) (sheet : SheetParts) (i x o : ℕ) → o < length sheet.tasks → (t : Tracks) → IsTrackingAt p sheet i t →
-    HasBegun sheet x o (place_of t.places.items o).end → IsOpen sheet x o (place_of t.places.items o).end → IsEndMoved p sheet i x o t t
-end_stays p sheet i x o b t tracking begun still =
-    let near = (tracking.each o b).near in
-    record {
-      tracking = tracking;
-      at = record { begun = begun; open_yet = still; flat = near.stair.flat; higher = near.stair.higher };
-      others = λ k ne. refl;
-      counts = λ k. refl;
-      changes = refl;
-    }
-
--- the number of task o, renewed for offset a
-pub recounted : (p : PolicyMeaning) (sheet : SheetParts) (i a o : ℕ) → o < length sheet.tasks → (t new : Tracks) →
-    length t.changes ≡ length sheet.tasks → IsTrackingAt p sheet i t →
-    (count change : ℕ) → count ≤ 5000000000000000 → IsCounted p sheet i a o count change →
-    new.places.items ≡ set t.places.items o (record { end = (place_of t.places.items o).end; count = count }) →
-    new.untils ≡ t.untils → new.changes ≡ set t.changes o change →
-    new.sum ≡ sum_below (asked_of p sheet i new.places.items) (length sheet.tasks) → IsRecounted p sheet i a o t new
-recounted p sheet i a o b t new full tracking count change high counted ep eu ec es =
-    let places = t.places.items in
-    let place : Place = record { end = (place_of places o).end; count = count } in
-    let sum : new.sum ≡ sum_below (asked_of p sheet i (set places o place)) (length sheet.tasks) = es ∙
-    ap (λ (ps : List Place). sum_below (asked_of p sheet i ps) (length sheet.tasks)) ep in
-    let renewed = count_tracking p sheet i a places t.untils t.changes t.sum full tracking o b count change high counted new.sum sum in
-    let here = count_at p sheet i a places t.untils t.changes t.sum full tracking o b count change high counted in
-    record {
-      tracking =
-          subst (λ (ps : List Place). IsTracking p sheet i ps new.untils new.sum) (sym ep)
-          (subst (λ (us : List ℕ). IsTracking p sheet i (set places o place) us new.sum) (sym eu) renewed);
-      count = ap (λ (ns : List ℕ). length ns) ec ∙ length-set t.changes o change;
-      at = subst (λ (ps : List Place). IsCountedAt p sheet i a ps new.changes o) (sym ep)
-          (subst (λ (ns : List ℕ). IsCountedAt p sheet i a (set places o place) ns o) (sym ec) here);
-      others = λ k c ne h.
-          let kept = count_others p sheet i a places t.untils t.changes t.sum full tracking o b count change high counted k c ne h in
-          subst (λ (ps : List Place). IsCountedAt p sheet i c ps new.changes k) (sym ep)
-          (subst (λ (ns : List ℕ). IsCountedAt p sheet i c (set places o place) ns k) (sym ec) kept);
-      kept = λ k ne. ap (λ (ns : List ℕ). number_of ns k) ec ∙ get_or-set_other t.changes o k change 0 ne;
-      ends = subst (λ (ps : List Place). KeepEnds places ps) (sym ep)
-          (count_ends p sheet i a places t.untils t.changes t.sum full tracking o b count change high counted);
-    }
+-- task o, which stands at the end x
+pub end_stays : (p : PolicyMeaning) (sheet : SheetParts) (i x o : ℕ) (t : Tracks) → IsTrackingAt p sheet i t →
+    IsEnded (task_at sheet o) x (place_of t.places.items o) (number_of t.untils o) → IsEndMoved p sheet i x o t t
+end_stays p sheet i x o t tracking ended = record {
+  tracking = tracking;
+  ended = ended;
+  count_is = refl;
+  others = record { places = λ k ne. refl; untils = λ k ne. refl };
+  changes = refl;
+}
 
 -- task o, seated at offset 0 and end 0
-module _ (p : PolicyMeaning) (sheet : SheetParts) (i o : ℕ) (b : o < length sheet.tasks)
-    (low : (task_at sheet o).jitter ≤ 1000000000) (t : Tracks) (ready : IsReady sheet t)
-    (end : Stair) (stair : IsStair (task_at sheet o).curve end (0 + (task_at sheet o).jitter)) (count change : ℕ)
-    (high : count ≤ 5000000000000000) (counted : IsCounted p sheet i 0 o count change) where
-  abbrev place : Place
-  place = record { end = end; count = count }
-
-  abbrev until : ℕ
-  until = min (end.until - (task_at sheet o).jitter) 2000000000
-
-  near : IsNear (task_at sheet o) place
-  near = record { at = 0 + (task_at sheet o).jitter; near = omega arith; stair = stair; count_high = high }
-
-  here : IsSeated p sheet i 0 0 o place until change
-  here = record {
-    keyed = record { near = near; until_is = refl };
-    ended = stair;
-    counted = counted;
-  }
-
-  in_places : o < length t.places.items
-  in_places = omega (arith, ready.near.count)
-
-  in_untils : o < length t.untils
-  in_untils = omega (arith, ready.full)
-
-  in_changes : o < length t.changes
-  in_changes = omega (arith, ready.changes)
-
-  pub settled : (new : Tracks) → new.places.items ≡ set t.places.items o place → new.untils ≡ set t.untils o until →
-      new.changes ≡ set t.changes o change → new.sum ≡ t.sum + part_of p sheet i o place → IsSettled p sheet i o t new
-  settled new ep eu ec es =
-      let places = t.places.items in
-      let seated = settled_at places t.untils t.changes o in_places in_untils in_changes place until change p sheet i here in
-      let all : (k : ℕ) → IsSeated p sheet i 0 0 k (place_of (set places o place) k) (number_of (set t.untils o until) k)
-      (number_of (set t.changes o change) k) → IsSeatedAt p sheet i 0 0 new k =
-      λ k h.
-      subst (λ (ps : List Place). IsSeated p sheet i 0 0 k (place_of ps k) (number_of new.untils k) (number_of new.changes k)) (sym ep)
-      (subst (λ (us : List ℕ). IsSeated p sheet i 0 0 k (place_of (set places o place) k) (number_of us k) (number_of new.changes k)) (sym eu)
-      (subst (λ (ns : List ℕ). IsSeated p sheet i 0 0 k (place_of (set places o place) k) (number_of (set t.untils o until) k)
-      (number_of ns k)) (sym ec) h)) in
-      record {
-        ready = record {
-          near = subst (λ (ps : List Place). AreNear sheet ps) (sym ep)
-              (settled_near places t.untils t.changes o in_places in_untils in_changes place until change sheet b ready.near near);
-          full = ap (λ (us : List ℕ). length us) eu ∙ length-set t.untils o until ∙ ready.full;
-          changes = ap (λ (ns : List ℕ). length ns) ec ∙ length-set t.changes o change ∙ ready.changes;
+pub settled : (p : PolicyMeaning) (sheet : SheetParts) (i o : ℕ) → o < length sheet.tasks → (place : Place) → IsNear (task_at sheet o) place →
+    IsEnded (task_at sheet o) 0 place (until_by (kind_of p sheet i o) place (task_at sheet o).jitter) →
+    (change : ℕ) → IsCounted p sheet i 0 o place.count change → (t new : Tracks) → IsReady sheet t → new.places.items ≡ set t.places.items o place →
+    new.untils ≡ set t.untils o (until_by (kind_of p sheet i o) place (task_at sheet o).jitter) →
+    new.changes ≡ set t.changes o change → new.sum ≡ t.sum + part_of p sheet i o place → IsSettled p sheet i o t new
+settled p sheet i o b place near ended change counted t new ready ep eu ec es =
+    let put = put_there p sheet i 0 o place near ended t new (omega (arith, ready.near.count)) (omega (arith, ready.full)) ep eu in
+    let here : number_of new.changes o ≡ change = ap (λ (ns : List ℕ). number_of ns o) ec ∙ get_or-set_same t.changes o change 0 (omega (arith, ready.changes)) in
+    let same : (k : ℕ) → k ≢ o → number_of new.changes k ≡ number_of t.changes k =
+    λ k ne. ap (λ (ns : List ℕ). number_of ns k) ec ∙ get_or-set_other t.changes o k change 0 ne in
+    record {
+      ready = record {
+        near = record {
+          count = put.count ∙ ready.near.count;
+          each = λ k l. each_now (λ k place until. IsNear (task_at sheet k) place) o k t new put.others put.keyed.near (λ ne. ready.near.each k l);
         };
-        at = all o seated;
-        others = λ k ne h. all k (settled_others places t.untils t.changes o in_places in_untils in_changes place
-            until change p sheet i k ne h);
-        places = λ k ne. ap (λ (ps : List Place). place_of ps k) ep ∙ get_or-set_other places o k place no_place ne;
-        sum_is = es ∙ ap (λ (s : Place). t.sum + part_of p sheet i o s)
-            (sym (ap (λ (ps : List Place). place_of ps o) ep ∙ get_or-set_same places o place no_place in_places));
-      }
-
-pub small_at : (sheet : SheetParts) → IsValidSheet sheet → (x o : ℕ) → x ≤ 1000000000 → o < length sheet.tasks → (task_at sheet o).jitter ≤ 1000000000 →
-    (end : Stair) → IsStair (task_at sheet o).curve end (x + (task_at sheet o).jitter) → (count : ℕ) → count ≤ 5000000000000000 →
-    IsSmall (record { end = end; count = count })
-small_at sheet ok x o high b low end stair count few =
-    let place : Place = record { end = end; count = count } in
-    small (task_at sheet o) (ok.each o b) place (record { at = x + (task_at sheet o).jitter; near = omega arith; stair = stair; count_high = few })
+        full = put.full ∙ ready.full;
+        changes = ap (λ (ns : List ℕ). length ns) ec ∙ length-set t.changes o change ∙ ready.changes;
+      };
+      at = record {
+        keyed = put.keyed;
+        ended = put.ended;
+        counted = subst (λ w. IsCounted p sheet i 0 o w (number_of new.changes o)) (ap (λ (s : Place). s.count) (sym put.is))
+            (subst (IsCounted p sheet i 0 o place.count) (sym here) counted);
+      };
+      others = λ k ne h. other_now (λ s until. IsSeated p sheet i 0 0 k s until (number_of new.changes k)) o k t new put.others ne
+          (subst (IsSeated p sheet i 0 0 k (place_of t.places.items k) (number_of t.untils k)) (sym (same k ne)) h);
+      places = put.others.places;
+      sum_is = es ∙ ap (λ (s : Place). t.sum + part_of p sheet i o s) (sym put.is);
+    }
 
 ground_of : (c : Curve) → IsCurve c → IsStair c (record { value = 0; from = 0; until = 1; come = 0 }) 0
 ground_of c ok = record {

@@ -1,40 +1,44 @@
 -- Where all tasks of a sheet stand.
-use Rattle.std.specs.Prelude.{◌≡◌, ◌≢◌, ℕ, ◌+◌, ◌-◌, ◌<◌, ◌≤◌, min, List, length}
+use Rattle.std.specs.Prelude.{◌≡◌, ◌≢◌, ℕ, ◌+◌, ◌<◌, ◌≤◌, List, length}
 use Rattle.lists.specs.Sums.{sum_below}
-use Rattle.curve.specs.Stairs.{IsStair}
-use Rattle.curve.specs.declared.prefix.Stair.{Stair}
 use Rattle.task_sheet.specs.declared.tasks.Task.{Task}
 use Rattle.task_sheet.specs.SheetParts.{SheetParts}
 use Rattle.task_sheet.specs.Sheets.{task_at}
+use Rattle.policy.specs.declared.keys.Cap.{Cap}
 use Rattle.policy.specs.PolicyMeaning.{PolicyMeaning}
 use Rattle.meter.specs.declared.tracks.Place.{Place}
 use Rattle.meter.specs.declared.tracks.Tracks.{Tracks}
 use Rattle.meter.specs.Soonests.{number_of}
 use Rattle.meter.specs.Changes.{IsCounted}
-use Rattle.meter.specs.Places.{place_of, asked_of, IsNear, AreNear}
+use Rattle.meter.specs.Places.{kind_of, until_by, place_of, asked_of, IsNear, AreNear}
 
--- a place, and the end at which its stair ends
-pub record IsKeyed (task : Task) (place : Place) (until : ℕ) : Type 0 where
+-- a place, and the end at which it is left
+pub record IsKeyed (task : Task) (kind : Cap) (place : Place) (until : ℕ) : Type 0 where
   pub near : IsNear task place
-  pub until_is : until ≡ min (place.end.until - task.jitter) 2000000000
+  pub until_is : until ≡ until_by kind place task.jitter
 
--- the places of all tasks, their ends, and what they ask for together
+-- the places of all tasks, the ends at which they are left, and what they ask for together
 pub record IsTracking (p : PolicyMeaning) (sheet : SheetParts) (i : ℕ) (places : List Place) (untils : List ℕ) (sum : ℕ) : Type 0 where
   pub count : length places ≡ length sheet.tasks
   pub full : length untils ≡ length sheet.tasks
-  pub each : (o : ℕ) → o < length sheet.tasks → IsKeyed (task_at sheet o) (place_of places o) (number_of untils o)
+  pub each : (o : ℕ) → o < length sheet.tasks → IsKeyed (task_at sheet o) (kind_of p sheet i o) (place_of places o) (number_of untils o)
   pub sum_is : sum ≡ sum_below (asked_of p sheet i places) (length sheet.tasks)
 
--- a stair of task o begins no later than the end x, and ends later
-abbrev pub HasBegun : SheetParts → ℕ → ℕ → Stair → Type 0
-HasBegun sheet x o stair = stair.from ≤ x + (task_at sheet o).jitter
+abbrev pub IsTrackingAt : PolicyMeaning → SheetParts → ℕ → Tracks → Type 0
+IsTrackingAt p sheet i t = IsTracking p sheet i t.places.items t.untils t.sum
 
-abbrev pub IsOpen : SheetParts → ℕ → ℕ → Stair → Type 0
-IsOpen sheet x o stair = x + (task_at sheet o).jitter < stair.until
+-- the stair of a place begins no later than the end x
+abbrev pub HasBegun : Task → ℕ → Place → Type 0
+HasBegun task x place = place.end.from ≤ x + task.jitter
 
--- the stairs of the tasks below n stand at the end x
-abbrev pub AreEnded : SheetParts → ℕ → List Place → ℕ → Type 0
-AreEnded sheet x places n = (o : ℕ) → o < n → IsStair (task_at sheet o).curve (place_of places o).end (x + (task_at sheet o).jitter)
+-- a place is that of the end x: its stair has begun, and it is left later
+pub record IsEnded (task : Task) (x : ℕ) (place : Place) (until : ℕ) : Type 0 where
+  pub begun : HasBegun task x place
+  pub open_yet : x < until
+
+-- all places are those of the end x
+abbrev pub AreEnded : SheetParts → ℕ → Tracks → Type 0
+AreEnded sheet x t = (o : ℕ) → o < length sheet.tasks → IsEnded (task_at sheet o) x (place_of t.places.items o) (number_of t.untils o)
 
 -- the numbers of task o are those of offset a
 abbrev pub IsCountedAt : PolicyMeaning → SheetParts → ℕ → ℕ → List Place → List ℕ → ℕ → Type 0
@@ -49,42 +53,38 @@ pub record AreCounted (p : PolicyMeaning) (sheet : SheetParts) (i a : ℕ) (plac
 abbrev pub KeepCounts : List Place → List Place → Type 0
 KeepCounts before after = (k : ℕ) → (place_of after k).count ≡ (place_of before k).count
 
--- the stairs at the end stay
-abbrev pub KeepEnds : List Place → List Place → Type 0
-KeepEnds before after = (k : ℕ) → (place_of after k).end ≡ (place_of before k).end
+-- no task but o was moved
+pub record IsMovedOnly (o : ℕ) (before after : Tracks) : Type 0 where
+  pub places : (k : ℕ) → k ≢ o → place_of after.places.items k ≡ place_of before.places.items k
+  pub untils : (k : ℕ) → k ≢ o → number_of after.untils k ≡ number_of before.untils k
 
-abbrev pub IsTrackingAt : PolicyMeaning → SheetParts → ℕ → Tracks → Type 0
-IsTrackingAt p sheet i t = IsTracking p sheet i t.places.items t.untils t.sum
-
--- only the stair of task o was moved, to the end x
-pub record IsEndMoved (p : PolicyMeaning) (sheet : SheetParts) (i x o : ℕ) (before after : Tracks) : Type 0 where
+-- task o was put where it stands at the end x, with a number
+pub record IsStood (p : PolicyMeaning) (sheet : SheetParts) (i x o count : ℕ) (before after : Tracks) : Type 0 where
   pub tracking : IsTrackingAt p sheet i after
-  pub at : IsStair (task_at sheet o).curve (place_of after.places.items o).end (x + (task_at sheet o).jitter)
-  pub others : (k : ℕ) → k ≢ o → place_of after.places.items k ≡ place_of before.places.items k
-  pub counts : KeepCounts before.places.items after.places.items
+  pub ended : IsEnded (task_at sheet o) x (place_of after.places.items o) (number_of after.untils o)
+  pub count_is : (place_of after.places.items o).count ≡ count
+  pub others : IsMovedOnly o before after
   pub changes : after.changes ≡ before.changes
 
--- only the number of task o was renewed, for offset a
-pub record IsRecounted (p : PolicyMeaning) (sheet : SheetParts) (i a o : ℕ) (before after : Tracks) : Type 0 where
-  pub tracking : IsTrackingAt p sheet i after
-  pub count : length after.changes ≡ length before.changes
-  pub at : IsCountedAt p sheet i a after.places.items after.changes o
-  pub others : (k b : ℕ) → k ≢ o → IsCountedAt p sheet i b before.places.items before.changes k → IsCountedAt p sheet i b after.places.items after.changes k
-  pub kept : (k : ℕ) → k ≢ o → number_of after.changes k ≡ number_of before.changes k
-  pub ends : KeepEnds before.places.items after.places.items
+-- task o was moved to the end x
+abbrev pub IsEndMoved : PolicyMeaning → SheetParts → ℕ → ℕ → ℕ → Tracks → Tracks → Type 0
+IsEndMoved p sheet i x o before after = IsStood p sheet i x o (place_of before.places.items o).count before after
 
--- all stairs were moved to the end x
+-- the number of task o was renewed for offset a, at the end x
+pub record IsRecounted (p : PolicyMeaning) (sheet : SheetParts) (i a x o : ℕ) (before after : Tracks) : Type 0 where
+  pub tracking : IsTrackingAt p sheet i after
+  pub ended : IsEnded (task_at sheet o) x (place_of after.places.items o) (number_of after.untils o)
+  pub count : length after.changes ≡ length before.changes
+  pub counted : IsCountedAt p sheet i a after.places.items after.changes o
+  pub others : IsMovedOnly o before after
+  pub changes : (k : ℕ) → k ≢ o → number_of after.changes k ≡ number_of before.changes k
+
+-- all tasks were moved to the end x
 pub record AreMoved (p : PolicyMeaning) (sheet : SheetParts) (i x : ℕ) (before after : Tracks) : Type 0 where
   pub tracking : IsTrackingAt p sheet i after
-  pub ended : AreEnded sheet x after.places.items (length sheet.tasks)
+  pub ended : AreEnded sheet x after
   pub counts : KeepCounts before.places.items after.places.items
   pub changes : after.changes ≡ before.changes
-
--- all numbers were renewed, for offset a
-pub record AreRecounted (p : PolicyMeaning) (sheet : SheetParts) (i a : ℕ) (before after : Tracks) : Type 0 where
-  pub tracking : IsTrackingAt p sheet i after
-  pub counted : AreCounted p sheet i a after.places.items after.changes
-  pub ends : KeepEnds before.places.items after.places.items
 
 -- each task has a place
 pub record IsReady (sheet : SheetParts) (t : Tracks) : Type 0 where
@@ -94,8 +94,8 @@ pub record IsReady (sheet : SheetParts) (t : Tracks) : Type 0 where
 
 -- all that stands of one task at offset a and end x
 pub record IsSeated (p : PolicyMeaning) (sheet : SheetParts) (i a x o : ℕ) (place : Place) (until change : ℕ) : Type 0 where
-  pub keyed : IsKeyed (task_at sheet o) place until
-  pub ended : IsStair (task_at sheet o).curve place.end (x + (task_at sheet o).jitter)
+  pub keyed : IsKeyed (task_at sheet o) (kind_of p sheet i o) place until
+  pub ended : IsEnded (task_at sheet o) x place until
   pub counted : IsCounted p sheet i a o place.count change
 
 abbrev pub IsSeatedAt : PolicyMeaning → SheetParts → ℕ → ℕ → ℕ → Tracks → ℕ → Type 0
@@ -112,5 +112,5 @@ pub record IsSettled (p : PolicyMeaning) (sheet : SheetParts) (i o : ℕ) (befor
 -- all tasks stand at offset a and end x
 pub record AreSeated (p : PolicyMeaning) (sheet : SheetParts) (i a x : ℕ) (t : Tracks) : Type 0 where
   pub tracking : IsTrackingAt p sheet i t
-  pub ended : AreEnded sheet x t.places.items (length sheet.tasks)
+  pub ended : AreEnded sheet x t
   pub counted : AreCounted p sheet i a t.places.items t.changes

@@ -1,16 +1,63 @@
 //! How places move with the offset and the end.
 ghost use Rattle.std.specs.Prelude.{◌≡◌, ◌≤◌, ◌<◌, ◌+◌, ◌*◌, ◌^◌, ℕ, length};
 ghost use Rattle.lists.specs.Limits.{greatest_number};
-ghost use Rattle.meter.specs.Places.{place_of};
-ghost use Rattle.meter.specs.Tracking.{IsTrackingAt, HasBegun, IsOpen, AreEnded, IsEndMoved, IsRecounted, AreMoved, AreRecounted, AreCounted, IsReady, IsSettled, AreSeated};
+ghost use Rattle.task_sheet.specs.Sheets.{task_at};
+ghost use Rattle.meter.specs.Soonests.{number_of};
+ghost use Rattle.meter.specs.Places.{place_of, until_by, IsNear};
+ghost use Rattle.meter.specs.Tracking.{IsTrackingAt, HasBegun, IsEnded, AreEnded, IsStood, IsEndMoved, IsRecounted, AreMoved, IsReady, IsSettled, AreSeated};
 
 use crate::changes::counting;
-use crate::soonest::NEVER;
-use crate::tracks::{Place, Tracks, part, put};
-use policy::Policy;
-use task_sheet::Sheet;
+use crate::tracks::{Place, Tracks, kind, part, put, stays, until};
+use policy::{Cap, Policy};
+use task_sheet::{Sheet, Task};
 
-/// Moves the stair of task `o` to the end `x`.
+/// The place moved to the end `x`, but where what counts there stays up to this end.
+fn ended(task: &Task, kind: Cap, place: Place, x: u64) -> Place
+    requires end { x ≤ greatest_number }
+    requires jitter { task.now.jitter ≤ greatest_number }
+    requires near { IsNear task.now place }
+    ensures near { IsNear task.now result }
+    ensures count { result.count ≡ place.count }
+    ensures ended { IsEnded task.now x result (until_by kind result task.now.jitter) }
+{
+    let length = x + task.jitter;
+    if place.end.from <= length && stays(kind, &place) {
+        return place;
+    }
+    Place {
+        end: task.curve.stair_to(place.end, length),
+        count: place.count,
+    }
+}
+
+/// Puts task `o` where it stands at the end `x`, with another number.
+fn stand<P: Policy>(sheet: &Sheet, i: u32, o: u32, x: u64, count: u128, tracks: &mut Tracks)
+    requires i { i < length sheet.now.tasks }
+    requires o { o < length sheet.now.tasks }
+    requires end { x ≤ greatest_number }
+    requires count { count ≤ 5000000000000000 }
+    requires tracking { IsTrackingAt P.meaning sheet.now i tracks.old }
+    ensures { IsStood P.meaning sheet.now i x o count tracks.old tracks.new }
+{
+    let task = sheet.task(o);
+    let kind = kind::<P>(sheet, i, o);
+    let before = tracks.places[o as usize];
+    let place = ended(
+        task,
+        kind,
+        Place {
+            end: before.end,
+            count,
+        },
+        x,
+    );
+    tracks.sum = put::<P>(sheet, i, o, kind, place, &mut tracks.places, tracks.sum);
+    tracks
+        .untils
+        .set(o as usize, until(kind, &place, task.jitter));
+}
+
+/// Moves task `o` to the end `x`.
 fn move_end<P: Policy>(sheet: &Sheet, i: u32, o: u32, x: u64, tracks: &mut Tracks)
     requires i { i < length sheet.now.tasks }
     requires o { o < length sheet.now.tasks }
@@ -18,26 +65,17 @@ fn move_end<P: Policy>(sheet: &Sheet, i: u32, o: u32, x: u64, tracks: &mut Track
     requires tracking { IsTrackingAt P.meaning sheet.now i tracks.old }
     ensures { IsEndMoved P.meaning sheet.now i x o tracks.old tracks.new }
 {
-    let task = sheet.task(o);
-    let before = tracks.places[o as usize];
-    let end = task.curve.stair_to(before.end, x + task.jitter);
-    let place = Place {
-        end,
-        count: before.count,
-    };
-    tracks.sum = put::<P>(sheet, i, o, place, &mut tracks.places, tracks.sum);
-    tracks
-        .untils
-        .set(o as usize, (end.until - task.jitter).min(NEVER));
+    let count = tracks.places[o as usize].count;
+    stand::<P>(sheet, i, o, x, count, tracks);
 }
 
-/// Moves the stairs that end by `x` to that end, where none begins later.
+/// Moves the tasks that leave their places by `x` to that end, where no stair begins later.
 fn rise<P: Policy>(sheet: &Sheet, i: u32, x: u64, tracks: &mut Tracks)
     requires i { i < length sheet.now.tasks }
     requires end { x ≤ greatest_number }
     requires tracking { IsTrackingAt P.meaning sheet.now i tracks.old }
-    requires begun { (k : ℕ) → k < length sheet.now.tasks → HasBegun sheet.now x k (place_of
-        tracks.old.places.items k).end }
+    requires begun { (k : ℕ) → k < length sheet.now.tasks → HasBegun (task_at
+        sheet.now k) x (place_of tracks.old.places.items k) }
     ensures { AreMoved P.meaning sheet.now i x tracks.old tracks.new }
 {
     while tracks.untils.least() <= x {
@@ -46,13 +84,13 @@ fn rise<P: Policy>(sheet: &Sheet, i: u32, x: u64, tracks: &mut Tracks)
     }
 }
 
-/// Moves the stair of task `o` back to the end `x`, which it does not end by.
+/// Moves task `o` back to the end `x`, by which it does not leave its place.
 fn move_back<P: Policy>(sheet: &Sheet, i: u32, o: u32, x: u64, tracks: &mut Tracks)
     requires i { i < length sheet.now.tasks }
     requires o { o < length sheet.now.tasks }
     requires end { x ≤ greatest_number }
     requires tracking { IsTrackingAt P.meaning sheet.now i tracks.old }
-    requires still { IsOpen sheet.now x o (place_of tracks.old.places.items o).end }
+    requires still { x < number_of tracks.old.untils o }
     ensures { IsEndMoved P.meaning sheet.now i x o tracks.old tracks.new }
 {
     let before = tracks.places[o as usize];
@@ -62,13 +100,12 @@ fn move_back<P: Policy>(sheet: &Sheet, i: u32, o: u32, x: u64, tracks: &mut Trac
     move_end::<P>(sheet, i, o, x, tracks);
 }
 
-/// Moves the stairs that begin after `x` back to that end, where none ends by it.
+/// Moves the tasks whose stairs begin after `x` back to that end, where none leaves its place by it.
 fn fall<P: Policy>(sheet: &Sheet, i: u32, x: u64, tracks: &mut Tracks)
     requires i { i < length sheet.now.tasks }
     requires end { x ≤ greatest_number }
     requires tracking { IsTrackingAt P.meaning sheet.now i tracks.old }
-    requires still { (k : ℕ) → k < length sheet.now.tasks → IsOpen sheet.now x k (place_of
-        tracks.old.places.items k).end }
+    requires still { (k : ℕ) → k < length sheet.now.tasks → x < number_of tracks.old.untils k }
     ensures { AreMoved P.meaning sheet.now i x tracks.old tracks.new }
 {
     for o in 0..sheet.len() {
@@ -76,49 +113,43 @@ fn fall<P: Policy>(sheet: &Sheet, i: u32, x: u64, tracks: &mut Tracks)
     }
 }
 
-/// Renews the number of task `o` for offset `a`.
-fn recount<P: Policy>(sheet: &Sheet, i: u32, o: u32, a: u64, tracks: &mut Tracks)
+/// Renews the number of task `o` for offset `a`, at the end `x`.
+fn recount<P: Policy>(sheet: &Sheet, i: u32, o: u32, a: u64, x: u64, tracks: &mut Tracks)
     requires i { i < length sheet.now.tasks }
     requires o { o < length sheet.now.tasks }
     requires offset { a < greatest_number }
+    requires end { x ≤ greatest_number }
     requires changes { length tracks.old.changes ≡ length sheet.now.tasks }
     requires tracking { IsTrackingAt P.meaning sheet.now i tracks.old }
-    ensures { IsRecounted P.meaning sheet.now i a o tracks.old tracks.new }
+    ensures { IsRecounted P.meaning sheet.now i a x o tracks.old tracks.new }
 {
-    // for the proof: the sheet is valid
-    let _valid = sheet.len();
-    let before = tracks.places[o as usize];
     let counted = counting::<P>(sheet, i, o, a);
-    let place = Place {
-        end: before.end,
-        count: counted.count,
-    };
-    tracks.sum = put::<P>(sheet, i, o, place, &mut tracks.places, tracks.sum);
+    stand::<P>(sheet, i, o, x, counted.count, tracks);
     tracks.changes.set(o as usize, counted.change);
 }
 
-/// Renews the numbers that change up to offset `b`, from those of an earlier offset `a`.
-pub fn advance<P: Policy>(sheet: &Sheet, i: u32, a: u64, b: u64, tracks: &mut Tracks)
+/// Renews the numbers that change up to offset `b`, from those of an earlier offset `a`, at the
+/// end `x`.
+fn advance<P: Policy>(sheet: &Sheet, i: u32, a: u64, b: u64, x: u64, tracks: &mut Tracks)
     requires i { i < length sheet.now.tasks }
     requires order { a ≤ b }
     requires offset { b < greatest_number }
-    requires tracking { IsTrackingAt P.meaning sheet.now i tracks.old }
-    requires counted { AreCounted P.meaning sheet.now i a tracks.old.places.items
-        tracks.old.changes }
-    ensures { AreRecounted P.meaning sheet.now i b tracks.old tracks.new }
+    requires end { x ≤ greatest_number }
+    requires before { AreSeated P.meaning sheet.now i a x tracks.old }
+    ensures { AreSeated P.meaning sheet.now i b x tracks.new }
 {
     while tracks.changes.least() <= b {
         let o = tracks.changes.first();
-        recount::<P>(sheet, i, o, b, tracks);
+        recount::<P>(sheet, i, o, b, x, tracks);
     }
 }
 
-/// Moves all stairs from one end to another.
+/// Moves all from one end to another.
 fn turn<P: Policy>(sheet: &Sheet, i: u32, from: u64, x: u64, tracks: &mut Tracks)
     requires i { i < length sheet.now.tasks }
     requires end { x ≤ greatest_number }
     requires tracking { IsTrackingAt P.meaning sheet.now i tracks.old }
-    requires ended { AreEnded sheet.now from tracks.old.places.items (length sheet.now.tasks) }
+    requires ended { AreEnded sheet.now from tracks.old }
     ensures { AreMoved P.meaning sheet.now i x tracks.old tracks.new }
 {
     if x < from {
@@ -145,7 +176,7 @@ pub fn shift<P: Policy>(
     ensures { AreSeated P.meaning sheet.now i a x tracks.new }
 {
     turn::<P>(sheet, i, from.1, x, tracks);
-    advance::<P>(sheet, i, from.0, a, tracks);
+    advance::<P>(sheet, i, from.0, a, x, tracks);
 }
 
 /// Seats task `o` at offset 0 and end 0, and adds what it asks for.
@@ -158,19 +189,24 @@ fn settle<P: Policy>(sheet: &Sheet, i: u32, o: u32, tracks: &mut Tracks)
     ensures few { tracks.new.sum ≤ (o + 1) * 2 ^ 83 }
 {
     let task = sheet.task(o);
+    let kind = kind::<P>(sheet, i, o);
     let before = tracks.places[o as usize];
-    let end = task.curve.stair_to(before.end, task.jitter);
     let counted = counting::<P>(sheet, i, o, 0);
-    let place = Place {
-        end,
-        count: counted.count,
-    };
+    let place = ended(
+        task,
+        kind,
+        Place {
+            end: before.end,
+            count: counted.count,
+        },
+        0,
+    );
     tracks.places[o as usize] = place;
     tracks
         .untils
-        .set(o as usize, (end.until - task.jitter).min(NEVER));
+        .set(o as usize, until(kind, &place, task.jitter));
     tracks.changes.set(o as usize, counted.change);
-    tracks.sum += part::<P>(sheet, i, o, &place);
+    tracks.sum += part::<P>(sheet, i, o, kind, &place);
 }
 
 /// Seats all tasks for a job of task `i` at offset 0 and end 0.

@@ -91,6 +91,10 @@ impl Soonest {
         requires number { number ≤ 2000000000 }
         ensures { self.new ≡ set self.old k number }
     {
+        // It stands there already: the tree is right.
+        if self.numbers[k] == number {
+            return;
+        }
         let leaf = self.numbers.len() + k;
         self.numbers[k] = number;
         renew(&mut self.tree, leaf, number * PLACES + k as u64);

@@ -14,8 +14,8 @@ use Rattle.cert_check.specs.Laws.{MeetingIsAccepted, AcceptedIsSound}
 use Rattle.solver.specs.declared.analysis.AnalyseRefusal.{AnalyseRefusal}
 use Rattle.solver.specs.Best.{points_to, IsBest, IsUpTo, NoneSmaller}
 use Rattle.exercise.proofs.CountFacts.{points_all}
+use Rattle.poet_text.proofs.LengthFacts.{text_short}
 use Rattle.poet_cli.specs.Analyses.{IsBestBy}
-use Rattle.poet_cli.proofs.LengthFacts.{text_short}
 
 module _ (p : PolicyMeaning) (sheet : SheetParts) (horizon : ℕ) where
   pub best_from : MeetingIsAccepted p per_task_meaning (sbf_of sheet.supply) →

@@ -9,8 +9,9 @@ use Rattle.assign.specs.declared.assignment.Placed.{Placed}
 use Rattle.assign.specs.declared.assignment.AssignRefusal.TheVariants as assign
 use Rattle.assign.specs.Sheets.{sheet_by, AreGood}
 use Rattle.assign.specs.Assignment.{priority_in, IsAssignment, IsOrder, AreInTime, IsStuck, NoneGood}
-use Rattle.poet_cli.specs.declared.printed.Printed.TheVariants as printed
-use Rattle.poet_cli.specs.AssignAnswers.{assigned_text, no_order_text, assignment_for}
+use Rattle.poet_text.specs.declared.printed.Printed.TheVariants as printed
+use Rattle.poet_text.specs.Printing.{no_order_text}
+use Rattle.poet_cli.specs.AssignAnswers.{assigned_text, assignment_for}
 use Rattle.poet_cli.specs.Works.{AssignDoes}
 
 module _ (sheet : SheetParts) (horizon : ℕ) where

@@ -1,6 +1,6 @@
 -- The clauses of the top call, from how a command ended, by which calls of its shelf, and how that was told.
 use Rattle.std.proofs.Common.{◌≡◌, ◌↔◌, ℕ, Option, None}
-use Rattle.poet_cli.specs.Words.{Asked}
+use Rattle.poet_text.specs.Words.{Asked}
 use Rattle.poet_cli.specs.Openings.{OpensFront}
 use Rattle.poet_cli.specs.Origins.{WasPrinted}
 use Rattle.poet_cli.specs.Program.{answer_of, MayFail, files_of, Headline, Objection}

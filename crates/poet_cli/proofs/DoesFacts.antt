@@ -3,21 +3,22 @@ use Rattle.std.proofs.Common.{◌≡◌, ◌≤◌, ℕ, Bool, false, List, Opti
 use Rattle.task_sheet.specs.SheetParts.{SheetParts}
 use Rattle.task_sheet.specs.declared.refusal.SheetRefusal.{SheetRefusal}
 use Rattle.task_sheet.specs.declared.refusal.SheetRefusal.TheVariants as sheets
-use Rattle.poet_cli.specs.declared.refusal.Source.{Source}
-use Rattle.poet_cli.specs.declared.refusal.Source.TheVariants as source
-use Rattle.poet_cli.specs.declared.refusal.Refusal.{Refusal}
-use Rattle.poet_cli.specs.declared.refusal.Refusal.TheVariants.{Usage, Read, Sheet, Text, Limit, Points, Jobs, Segments, LongUpgrade, Memory}
-use Rattle.poet_cli.specs.declared.printed.Printed.{Printed}
-use Rattle.poet_cli.specs.declared.printed.Printed.TheVariants.{Done, JudgedNo}
-use Rattle.poet_cli.specs.Endings.{Ending, IsSound}
+use Rattle.poet_text.specs.declared.refusal.Source.{Source}
+use Rattle.poet_text.specs.declared.refusal.Source.TheVariants as source
+use Rattle.poet_text.specs.declared.refusal.Refusal.{Refusal}
+use Rattle.poet_text.specs.declared.refusal.Refusal.TheVariants.{Usage, Read, Sheet, Text, Limit, Points, Jobs, Segments, LongUpgrade, Memory}
+use Rattle.poet_text.specs.declared.printed.Printed.{Printed}
+use Rattle.poet_text.specs.declared.printed.Printed.TheVariants.{Done, JudgedNo}
+use Rattle.poet_text.specs.Endings.{Ending, IsSound}
+use Rattle.poet_text.specs.Words.{Asked}
+use Rattle.poet_text.specs.Tellings.{Told}
 use Rattle.poet_cli.specs.Answers.{sheet_read, sheet_by}
-use Rattle.poet_cli.specs.Words.{Asked}
 use Rattle.poet_cli.specs.Readings.{ShelfAt, WasRead, IsFileReading}
 use Rattle.poet_cli.specs.Steps.{Gives, After, Reads, ReadsSheet, OneFile, ReadsNext, TwoFiles}
 use Rattle.poet_cli.specs.Origins.{OfFile, OfOneFile, OfTwoFiles}
 use Rattle.poet_cli.specs.Works.{Work}
 use Rattle.poet_cli.specs.Program.{Plan, Alone, OverFile, OverSheet, OverBoth, plan_of, PlanDoes, PlanSays, Does, Headline, Objection}
-use Rattle.poet_cli.specs.Clauses.{Outside, LeavesShelf, Told, Did}
+use Rattle.poet_cli.specs.Clauses.{Outside, LeavesShelf, Did}
 
 -- a command that ended so, and how that was told
 pub told_did : (asked : Option Asked) (before after : Outside) (status : ℕ) (ending : Ending) → Does asked before.shelf after.shelf ending →

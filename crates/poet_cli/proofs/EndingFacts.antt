@@ -5,17 +5,18 @@ use Rattle.poet_io.specs.Faults.{Rose}
 use Rattle.poet_io.specs.Shelves.{Files, IfTold, IsTold}
 use Rattle.poet_io.specs.Sinks.{Appended}
 use Rattle.poet_io.proofs.Telling.{if_told_map, if_told_any, is_told_map, if_told_from, stayed_appended}
-use Rattle.poet_cli.specs.declared.printed.Printed.{Printed}
-use Rattle.poet_cli.specs.declared.printed.Printed.TheVariants.{Done, JudgedNo}
-use Rattle.poet_cli.specs.declared.refusal.Source.{Source}
-use Rattle.poet_cli.specs.declared.refusal.Refusal.{Refusal}
-use Rattle.poet_cli.specs.declared.refusal.Refusal.TheVariants.{Usage, Read, Sheet, Text, Limit, Points, Jobs, Segments, LongUpgrade, Memory}
-use Rattle.poet_cli.specs.Refusals.{refusal_status, line_of, write_failed}
-use Rattle.poet_cli.specs.Endings.{Ending, printed_status, ending_status, out_text, IsSound}
+use Rattle.poet_text.specs.declared.printed.Printed.{Printed}
+use Rattle.poet_text.specs.declared.printed.Printed.TheVariants.{Done, JudgedNo}
+use Rattle.poet_text.specs.declared.refusal.Source.{Source}
+use Rattle.poet_text.specs.declared.refusal.Refusal.{Refusal}
+use Rattle.poet_text.specs.declared.refusal.Refusal.TheVariants.{Usage, Read, Sheet, Text, Limit, Points, Jobs, Segments, LongUpgrade, Memory}
+use Rattle.poet_text.specs.Refusals.{refusal_status, line_of, write_failed}
+use Rattle.poet_text.specs.Endings.{Ending, printed_status, ending_status, out_text, IsSound}
+use Rattle.poet_text.specs.Tellings.{Outlets, ToldText, ToldFault, ToldLine, Told}
 use Rattle.poet_cli.specs.Readings.{ShelfAt}
 use Rattle.poet_cli.specs.Origins.{WasPrinted}
 use Rattle.poet_cli.proofs.FoundFacts.{Denied, Found}
-use Rattle.poet_cli.specs.Clauses.{Outlets, ToldText, ToldFault, ToldLine, Told, Answers}
+use Rattle.poet_cli.specs.Clauses.{Answers}
 
 pub printed_few : (p : Printed) → printed_status p ≤ 1
 printed_few (Done text) = omega arith

@@ -6,14 +6,14 @@ use Rattle.poet_io.specs.Faults.{Rose}
 use Rattle.poet_io.specs.Shelves.{Files, IfTold, IsTold}
 use Rattle.poet_io.proofs.Telling.{if_told_map, if_told_map_two, is_told_map, is_told_map_two, if_told_any, rose_from}
 use Rattle.task_sheet.specs.SheetParts.{SheetParts}
-use Rattle.poet_cli.specs.declared.refusal.Source.{Source}
-use Rattle.poet_cli.specs.declared.refusal.Source.TheVariants as source
-use Rattle.poet_cli.specs.declared.refusal.Refusal.{Refusal}
-use Rattle.poet_cli.specs.declared.refusal.Refusal.TheVariants.{Usage, Read, Sheet, Text, Limit, Points, Jobs, Segments, LongUpgrade, Memory}
-use Rattle.poet_cli.specs.Refusals.{limit_of}
-use Rattle.poet_cli.specs.Endings.{Ending, next}
+use Rattle.poet_text.specs.declared.refusal.Source.{Source}
+use Rattle.poet_text.specs.declared.refusal.Source.TheVariants as source
+use Rattle.poet_text.specs.declared.refusal.Refusal.{Refusal}
+use Rattle.poet_text.specs.declared.refusal.Refusal.TheVariants.{Usage, Read, Sheet, Text, Limit, Points, Jobs, Segments, LongUpgrade, Memory}
+use Rattle.poet_text.specs.Refusals.{limit_of}
+use Rattle.poet_text.specs.Endings.{Ending, next}
+use Rattle.poet_text.specs.Words.{Asked}
 use Rattle.poet_cli.specs.Answers.{within, file_in, sheet_by, sheet_in}
-use Rattle.poet_cli.specs.Words.{Asked}
 use Rattle.poet_cli.specs.Readings.{ShelfAt, IsLongerThan, IsFileReading}
 use Rattle.poet_cli.specs.Steps.{Gives, After, Reads, ReadsSheet, OneFile, ReadsNext, TwoFiles}
 use Rattle.poet_cli.specs.Program.{Plan, Alone, OverFile, OverSheet, OverBoth, over_sheet, over_both, plan_of, plan_answer, PlanDoes, answer_of, Does}

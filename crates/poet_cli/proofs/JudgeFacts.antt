@@ -12,10 +12,10 @@ use Rattle.certificate.specs.Parsing.{cert_of_text}
 use Rattle.conditions.specs.declared.failed.Failed.{Failed}
 use Rattle.cert_check.specs.declared.judging.Verdict.TheVariants as verdict
 use Rattle.cert_check.specs.Verdicts.{bounds_of, judged_as, verdict_by, cert_verdict_of}
-use Rattle.poet_cli.specs.declared.printed.Printed.TheVariants as printed
-use Rattle.poet_cli.specs.declared.refusal.Source.TheVariants as source
-use Rattle.poet_cli.specs.Endings.{next}
-use Rattle.poet_cli.specs.Printing.{accepted_text}
+use Rattle.poet_text.specs.declared.printed.Printed.TheVariants as printed
+use Rattle.poet_text.specs.declared.refusal.Source.TheVariants as source
+use Rattle.poet_text.specs.Endings.{next}
+use Rattle.poet_text.specs.Printing.{accepted_text}
 use Rattle.poet_cli.specs.Headline.{accepted_for}
 use Rattle.poet_cli.specs.Answers.{text_read, failed_for, judged_by, judge_by, best_for}
 use Rattle.poet_cli.specs.Analyses.{IsBestBy, Checks}

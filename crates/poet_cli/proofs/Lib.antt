@@ -4,9 +4,6 @@ pub mod MayFacts
 pub mod OpeningFacts
 pub mod DoesFacts
 pub mod EndingFacts
-mod WritingFacts
-mod SeenFacts
-mod LengthFacts
 mod AnalysisFacts
 mod SimulationFacts
 mod JudgeFacts
@@ -14,5 +11,6 @@ pub mod UpgradeFacts
 pub mod AssignFacts
 mod TableFacts
 mod DidFacts
+pub mod PourFacts
 pub mod VerdictFacts
 mod RestFacts

@@ -5,13 +5,13 @@ use Rattle.poet_io.proofs.Telling.{if_told_map}
 use Rattle.task_sheet.specs.SheetParts.{SheetParts}
 use Rattle.task_sheet.specs.declared.refusal.SheetRefusal.{SheetRefusal}
 use Rattle.task_sheet.specs.declared.refusal.SheetRefusal.TheVariants as sheets
-use Rattle.poet_cli.specs.declared.refusal.Source.{Source}
-use Rattle.poet_cli.specs.declared.refusal.Source.TheVariants as source
-use Rattle.poet_cli.specs.declared.refusal.Refusal.{Refusal}
-use Rattle.poet_cli.specs.declared.refusal.Refusal.TheVariants.{Usage, Read, Sheet, Text, Limit, Points, Jobs, Segments, LongUpgrade, Memory}
-use Rattle.poet_cli.specs.Endings.{Ending}
+use Rattle.poet_text.specs.declared.refusal.Source.{Source}
+use Rattle.poet_text.specs.declared.refusal.Source.TheVariants as source
+use Rattle.poet_text.specs.declared.refusal.Refusal.{Refusal}
+use Rattle.poet_text.specs.declared.refusal.Refusal.TheVariants.{Usage, Read, Sheet, Text, Limit, Points, Jobs, Segments, LongUpgrade, Memory}
+use Rattle.poet_text.specs.Endings.{Ending}
+use Rattle.poet_text.specs.Words.{Asked}
 use Rattle.poet_cli.specs.Answers.{sheet_read, sheet_by, sheet_in}
-use Rattle.poet_cli.specs.Words.{Asked}
 use Rattle.poet_cli.specs.Readings.{ShelfAt, IsFileReading}
 use Rattle.poet_cli.specs.Steps.{Gives, After, Reads, ReadsSheet, OneFile, ReadsNext, TwoFiles}
 use Rattle.poet_cli.specs.Refusing.{IsOf, NoText, IsTextOf, MayRefuse, NoSource, IsThis, IsSheet, IsSheetOr}

@@ -7,13 +7,13 @@ use Rattle.poet_io.specs.declared.shelf.ReadRefusal.{ReadRefusal}
 use Rattle.poet_io.specs.declared.shelf.ReadRefusal.TheVariants as stop
 use Rattle.poet_io.specs.Events.{Move, read_event, ReadSoFar, ReadToEnd, ReadUntil}
 use Rattle.task_sheet.specs.SheetParts.{SheetParts}
-use Rattle.poet_cli.specs.declared.refusal.Source.{Source}
-use Rattle.poet_cli.specs.declared.refusal.Source.TheVariants as source
-use Rattle.poet_cli.specs.declared.refusal.Refusal.{Refusal}
-use Rattle.poet_cli.specs.declared.refusal.Refusal.TheVariants.{Usage, Read, Sheet, Text, Limit, Points, Jobs, Segments, LongUpgrade, Memory}
-use Rattle.poet_cli.specs.Endings.{Ending}
-use Rattle.poet_cli.specs.Words.{Asked}
-use Rattle.poet_cli.specs.Refusals.{limit_of}
+use Rattle.poet_text.specs.declared.refusal.Source.{Source}
+use Rattle.poet_text.specs.declared.refusal.Source.TheVariants as source
+use Rattle.poet_text.specs.declared.refusal.Refusal.{Refusal}
+use Rattle.poet_text.specs.declared.refusal.Refusal.TheVariants.{Usage, Read, Sheet, Text, Limit, Points, Jobs, Segments, LongUpgrade, Memory}
+use Rattle.poet_text.specs.Endings.{Ending}
+use Rattle.poet_text.specs.Words.{Asked}
+use Rattle.poet_text.specs.Refusals.{limit_of}
 use Rattle.poet_cli.specs.Readings.{ShelfAt, IsFileReading}
 use Rattle.poet_cli.specs.Steps.{Reads, ReadsSheet, OneFile, ReadsNext, TwoFiles}
 use Rattle.poet_cli.specs.Openings.{opened_in, Opens, OpensFront}

@@ -7,17 +7,18 @@ use Rattle.supply.specs.Promises.{sbf_of}
 use Rattle.cert_check.specs.declared.judging.Verdict.{Verdict}
 use Rattle.cert_check.specs.declared.judging.Verdict.TheVariants as verdict
 use Rattle.cert_check.specs.Verdicts.{cert_verdict_of}
-use Rattle.poet_cli.specs.declared.printed.Printed.TheVariants.{Done, JudgedNo}
-use Rattle.poet_cli.specs.declared.refusal.Source.TheVariants as source
-use Rattle.poet_cli.specs.declared.refusal.Refusal.{Refusal}
-use Rattle.poet_cli.specs.declared.refusal.Refusal.TheVariants.{Usage, Read, Sheet, Text, Limit, Points, Jobs, Segments, LongUpgrade, Memory}
-use Rattle.poet_cli.specs.Endings.{Ending, IsSound}
+use Rattle.poet_text.specs.declared.printed.Printed.TheVariants.{Done, JudgedNo}
+use Rattle.poet_text.specs.declared.refusal.Source.TheVariants as source
+use Rattle.poet_text.specs.declared.refusal.Refusal.{Refusal}
+use Rattle.poet_text.specs.declared.refusal.Refusal.TheVariants.{Usage, Read, Sheet, Text, Limit, Points, Jobs, Segments, LongUpgrade, Memory}
+use Rattle.poet_text.specs.Endings.{Ending, IsSound}
+use Rattle.poet_text.specs.Tellings.{Outlets, Told}
 use Rattle.poet_cli.specs.Readings.{ShelfAt}
 use Rattle.poet_cli.specs.Steps.{Reads}
 use Rattle.poet_cli.specs.Openings.{OpensFront}
 use Rattle.poet_cli.specs.Origins.{WasPrinted}
 use Rattle.poet_cli.specs.Refusing.{IsNoRefusal, MayRefuse, IsThis}
-use Rattle.poet_cli.specs.Clauses.{Outlets, Outside, Told, Answers, LeavesShelf}
+use Rattle.poet_cli.specs.Clauses.{Outside, Answers, LeavesShelf}
 use Rattle.poet_cli.specs.CertVerdicts.{verdict_ending, rest_by, rest_of, AcceptedHolds, RefusedHolds, RestDoes, Judged, MayRest, RestHeadline, RestObjection}
 use Rattle.poet_cli.proofs.FoundFacts.{Found, reads_found}
 use Rattle.poet_cli.proofs.MayFacts.{may_reads}

@@ -9,7 +9,7 @@ use Rattle.simulated_run.specs.SimulatedRun.{World, simulated_run}
 use Rattle.simulated_run.specs.Laws.{IsDense}
 use Rattle.simulator.specs.declared.refusal.SimRefusal.{SimRefusal}
 use Rattle.simulator.specs.Simulations.{refused_by, run_or, simulation_of}
-use Rattle.poet_cli.specs.declared.printed.Printed.TheVariants.{Done}
+use Rattle.poet_text.specs.declared.printed.Printed.TheVariants.{Done}
 use Rattle.poet_cli.specs.RunAnswers.{world_for}
 use Rattle.poet_cli.specs.Headline.{RunComplies}
 use Rattle.poet_cli.specs.Works.{SimulateDoes}

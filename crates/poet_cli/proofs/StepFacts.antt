@@ -1,9 +1,9 @@
 -- The steps of a command, from what they read.
 use Rattle.std.proofs.Common.{◌≡◌, ℕ, List, Ok, Err, refl}
 use Rattle.task_sheet.specs.SheetParts.{SheetParts}
-use Rattle.poet_cli.specs.declared.refusal.Source.{Source}
-use Rattle.poet_cli.specs.declared.refusal.Refusal.{Refusal}
-use Rattle.poet_cli.specs.Endings.{Ending}
+use Rattle.poet_text.specs.declared.refusal.Source.{Source}
+use Rattle.poet_text.specs.declared.refusal.Refusal.{Refusal}
+use Rattle.poet_text.specs.Endings.{Ending}
 use Rattle.poet_cli.specs.Readings.{ShelfAt, IsFileReading}
 use Rattle.poet_cli.specs.Steps.{ReadsSheet, OneFile, TwoFiles}
 

@@ -19,12 +19,12 @@ use Rattle.run_model.specs.Runs.{job_at}
 use Rattle.schedule_laws.specs.Compliance.{IsSupplied, IsCompliant}
 use Rattle.schedule_laws.specs.Bounded.{AreBounded}
 use Rattle.cert_check.specs.Verdicts.{bounds_of, AreInTime}
-use Rattle.poet_cli.specs.declared.refusal.Source.TheVariants as source
+use Rattle.poet_text.specs.declared.refusal.Source.TheVariants as source
 use Rattle.assign.specs.Sheets.{sheet_by}
 use Rattle.assign.specs.Assignment.{priority_in}
-use Rattle.poet_cli.specs.Words.{Asked, CheckOf, AnalyseOf, SimulateOf, AuditOf, ReportOf, ExerciseOf, UpgradeOf, AssignOf, PromiseOf, InferOf}
+use Rattle.poet_text.specs.Words.{Asked, CheckOf, AnalyseOf, SimulateOf, AuditOf, ReportOf, ExerciseOf, UpgradeOf, AssignOf, PromiseOf, InferOf}
+use Rattle.poet_text.specs.PromisePrinting.{promise_text}
 use Rattle.poet_cli.specs.AssignAnswers.{OrderHolds}
-use Rattle.poet_cli.specs.PromiseAnswers.{promise_text}
 use Rattle.poet_cli.specs.Headline.{BoundsHold}
 use Rattle.poet_cli.specs.Analyses.{BestHolds}
 use Rattle.poet_cli.specs.Origins.{OfOneFile, OfTwoFiles, WasPrinted}

@@ -1,15 +1,5 @@
 -- A certificate that is judged as it is read.
-use Rattle.std.proofs.Common.{◌≡◌, ◌≢◌, inl, inr, ℕ, suc, ◌+◌, ◌<◌, ◌≤◌, Bool, List, [], ◌++◌, length, drop, get_or, drop-cons, codes, decimal, Option, Some, None, Result, Ok, Err, IsErr, refl, sym, ap, subst, ◌∙◌, arith, append_assoc, length-append}
-use Rattle.poet_io.specs.declared.eater.PourRefusal.TheVariants as pours
-use Rattle.poet_io.specs.declared.shelf.ReadRefusal.TheVariants as stop
-use Rattle.poet_io.specs.Events.{ReadUntil}
-use Rattle.poet_io.specs.Pours.{FailedAfter, PourCalls, PourFound}
-use Rattle.poet_io.specs.Reads.{IsAll, IsPart, HasFailed}
-use Rattle.poet_io.specs.Shelves.{Files, IfTold}
-use Rattle.poet_io.specs.Sinks.{Appended, Wrote}
-use Rattle.poet_io.proofs.Telling.{if_told_map}
-use Rattle.poet_io.proofs.Writing.{wrote_less, wrote_more}
-use Rattle.task_sheet.specs.declared.tasks.Task.{Task}
+use Rattle.std.proofs.Common.{◌≡◌, ◌≢◌, inl, inr, ℕ, Bool, List, [], length, Option, Some, None, Result, Ok, Err, refl, sym, ap, subst, ◌∙◌}
 use Rattle.task_sheet.specs.SheetParts.{SheetParts}
 use Rattle.policy.specs.PolicyMeaning.{PolicyMeaning}
 use Rattle.preemption.specs.CutMeaning.{CutMeaning}
@@ -18,15 +8,16 @@ use Rattle.conditions.specs.declared.failed.Failed.{Failed}
 use Rattle.cert_check.specs.declared.judging.Verdict.{Verdict}
 use Rattle.cert_check.specs.declared.judging.Verdict.TheVariants as verdict
 use Rattle.cert_check.specs.Verdicts.{cert_verdict_of, IsVerdict, IsBoundedBy}
-use Rattle.poet_cli.specs.declared.printed.Printed.TheVariants as printed
-use Rattle.poet_cli.specs.declared.refusal.Source.{Source}
-use Rattle.poet_cli.specs.declared.refusal.Source.TheVariants as source
-use Rattle.poet_cli.specs.declared.refusal.Refusal.{Refusal}
-use Rattle.poet_cli.specs.declared.refusal.Refusal.TheVariants.{Read, Text, Limit, Memory}
-use Rattle.poet_cli.specs.Refusals.{limit_of}
-use Rattle.poet_cli.specs.Endings.{Ending}
-use Rattle.poet_cli.specs.Printing.{met_word, bound_line, bounds_text, cond_text, task_text, named, refused_text}
-use Rattle.poet_cli.specs.Readings.{ShelfAt, IsLongerThan, IsFileReading}
+use Rattle.poet_text.specs.declared.printed.Printed.TheVariants as printed
+use Rattle.poet_text.specs.declared.refusal.Source.TheVariants as source
+use Rattle.poet_text.specs.declared.refusal.Refusal.{Refusal}
+use Rattle.poet_text.specs.declared.refusal.Refusal.TheVariants.{Text, Memory}
+use Rattle.poet_text.specs.Endings.{Ending}
+use Rattle.poet_text.specs.Words.{CheckOf}
+use Rattle.poet_text.specs.Endings.{next}
+use Rattle.poet_text.specs.Printing.{accepted_text}
+use Rattle.poet_text.specs.Tellings.{Outlets, Told}
+use Rattle.poet_cli.specs.Readings.{ShelfAt, IsFileReading}
 use Rattle.poet_cli.specs.Steps.{Gives}
 use Rattle.std.proofs.lemmas.List.{length-map}
 use Rattle.poet_io.specs.declared.text_refusal.TextRefusal.{TextRefusal}
@@ -40,97 +31,17 @@ use Rattle.certificate.specs.Text.{cert_format}
 use Rattle.certificate.specs.Parsing.{cert_of_text}
 use Rattle.schedule_laws.specs.Bounded.{AreBounded}
 use Rattle.cert_check.specs.Verdicts.{bounds_of, judged_as, verdict_by}
-use Rattle.poet_cli.specs.Words.{CheckOf}
-use Rattle.poet_cli.specs.Endings.{next}
-use Rattle.poet_cli.specs.Printing.{accepted_text}
 use Rattle.poet_cli.specs.Answers.{text_read, sheet_by, failed_for, judged_by, judge_by}
 use Rattle.poet_cli.specs.Refusing.{IsOf, IsTextOf, IsNoRefusal}
 use Rattle.poet_cli.specs.Headline.{accepted_for, BoundsHold}
 use Rattle.poet_cli.specs.Objections.{CertificateFails}
 use Rattle.poet_cli.specs.Works.{JudgeDoes}
 use Rattle.poet_cli.specs.Steps.{After, ReadsSheet}
-use Rattle.poet_cli.specs.Clauses.{Outlets, Outside, Told, Did}
+use Rattle.poet_cli.specs.Clauses.{Outside, Did}
 use Rattle.poet_io.specs.Eaters.{Ate}
 use Rattle.cert_check.specs.CheckerParts.{CheckerParts}
 use Rattle.cert_check.specs.Standing.{MadeWith, IsAt}
 use Rattle.poet_cli.specs.CertVerdicts.{HasCount, verdict_ending, rest_by, AcceptedHolds, RefusedHolds, RestDoes, Judged, HadNoMemory, JudgedUnless}
-
--- the pieces of a line
-pub bound_pieces : (task : Task) (bound : ℕ) → codes "task " ++ (task.name ++ (codes " bound " ++ (decimal bound ++
-    (codes " deadline " ++ (decimal task.deadline ++ met_word bound task.deadline))))) ≡ bound_line task bound
-unfolding bound_line
-bound_pieces task bound = simp append_assoc
-
-pub refused_pieces : (sheet : SheetParts) (failed : Failed) (word name point digits : List ℕ) → task_text sheet failed.task ≡ word ++ name →
-    named (codes " point ") failed.point ≡ point ++ digits →
-    cond_text failed.cond ++ (word ++ (name ++ (point ++ (digits ++ (codes "\n" ++ codes ""))))) ≡ refused_text sheet failed
-unfolding refused_text
-refused_pieces sheet failed word name point digits task_is point_is = rw (task_is, point_is) (simp append_assoc)
-
-module _ (which : Source) (name : List ℕ) (before now : ShelfAt) (same : now.files ≡ before.files) (later : before.faults ≤ now.faults)
-    (bytes : List ℕ) (left : Option (List ℕ)) where
-  -- pouring a file reads it once
-  pub poured_whole : PourCalls {T = Unit {0}} name (limit_of which) bytes before.log now.log (Ok tt) → IfTold before.files (IsAll name bytes left) →
-      IsFileReading which name before now (Ok bytes)
-  poured_whole calls found = record {
-    files = same;
-    later = later;
-    calls = record { few = calls.0; calls = calls.1; is_told = if_told_map before.files (IsAll name bytes left) _ (λ x all. all.0) found };
-  }
-
-  fault_calls : length bytes ≤ limit_of which → FailedAfter name bytes before.log now.log → ReadUntil name (limit_of which) before.log now.log stop.Fault
-  fault_calls few (inl opened) = inl opened.1
-  fault_calls few (inr read) = inr (record { bytes = bytes; read = read; few = few })
-
-  pub poured_fault : PourCalls {T = Unit {0}} name (limit_of which) bytes before.log now.log (Err pours.Fault) →
-      HasFailed now.is_open left before.faults now.faults → IsFileReading which name before now (Err (Read which))
-  poured_fault calls found = record {
-    files = same;
-    later = later;
-    calls = (refl, record { calls = inl (fault_calls calls.0 calls.1, found.cause); closed = found.closed.closed });
-  }
-
-  pub poured_absent : PourCalls {T = Unit {0}} name (limit_of which) bytes before.log now.log (Err pours.Absent) →
-      PourFound {T = Unit {0}} before.files name bytes now.is_open left before.faults now.faults (Err pours.Absent) →
-      IsFileReading which name before now (Err (Read which))
-  poured_absent calls found = record {
-    files = same;
-    later = later;
-    calls = (refl, record { calls = inr (calls.1, found.1); closed = found.0.closed });
-  }
-
-  longer : length bytes ≡ limit_of which + 1 → (x : Files) → IsPart name bytes left x → IsLongerThan (limit_of which) name x
-  longer count x part = (bytes ++ part.rest, part.file, omega (arith, count, length-append bytes part.rest))
-
-  pub poured_long : PourCalls {T = Unit {0}} name (limit_of which) bytes before.log now.log (Err pours.TooLong) →
-      IfTold before.files (IsPart name bytes left) → IsFileReading which name before now (Err (Limit which))
-  poured_long calls found = record {
-    files = same;
-    later = later;
-    calls = (
-      refl,
-      record {
-        calls = (bytes, calls.1, calls.0);
-        is_told = if_told_map before.files (IsPart name bytes left) (IsLongerThan (limit_of which) name) (longer calls.0) found;
-      },
-    );
-  }
-
--- the next line of the bounds
-bounds_next : (tasks : List Task) (bounds : List ℕ) (i : ℕ) (d : Task) (b : ℕ) → i < length tasks → i < length bounds →
-    bounds_text (drop i tasks) (drop i bounds) ≡ bound_line (get_or tasks i d) (get_or bounds i b) ++ bounds_text (drop (suc i) tasks) (drop (suc i) bounds)
-bounds_next tasks bounds i d b h k = rw (drop-cons tasks i d h, drop-cons bounds i b k) refl
-
--- lines were written, and the next one failed
-pub bounds_fail : {S T E : Type 0} (before now after : List ℕ) (f g h : ℕ) (tasks : List Task) (bounds : List ℕ) (i : ℕ) (d : Task) (b : ℕ)
-    (done : List ℕ) (r : Result S E) (s : Result T E) → i < length tasks → i < length bounds →
-    bounds_text tasks bounds ≡ done ++ bounds_text (drop i tasks) (drop i bounds) → f ≤ g → Appended before now done → IsErr r → IsErr s →
-    Wrote {T = S} {E = E} now after g h (bound_line (get_or tasks i d) (get_or bounds i b)) r → Wrote {T = T} {E = E} before after f h (bounds_text tasks bounds) s
-bounds_fail {E = E} before now after f g h tasks bounds i d b done r s lt few all le so_far is_r is_s w =
-    let first : Wrote {T = Unit {0}} {E = E} before now f g done (Ok tt) = record { later = le; whole = so_far; cause = tt; part = tt } in
-    rw (all, bounds_next tasks bounds i d b lt few)
-    (wrote_more before now after f g h done _ tt s first
-    (wrote_less now after g h _ (bounds_text (drop (suc i) tasks) (drop (suc i) bounds)) r s is_r is_s w))
 
 module _ (p : PolicyMeaning) (m : CutMeaning) (sheet : SheetParts) (deadlines : Bool) where
   -- a verdict that is the defined one ends as it must

@@ -14,11 +14,11 @@ use Rattle.solver.specs.declared.analysis.Part.{Part}
 use Rattle.solver.specs.declared.analysis.AnalyseRefusal.{AnalyseRefusal}
 use Rattle.solver.specs.declared.analysis.AnalyseRefusal.TheVariants as solver
 use Rattle.solver.specs.Best.{IsUpTo, NoneSmaller, NoneMeets, NoneWhereNoBound}
-use Rattle.poet_cli.specs.declared.printed.Printed.TheVariants as printed
-use Rattle.poet_cli.specs.declared.refusal.Source.TheVariants as source
-use Rattle.poet_cli.specs.Refusals.{limit_of}
-use Rattle.poet_cli.specs.Endings.{next}
-use Rattle.poet_cli.specs.Printing.{no_bound_text}
+use Rattle.poet_text.specs.declared.printed.Printed.TheVariants as printed
+use Rattle.poet_text.specs.declared.refusal.Source.TheVariants as source
+use Rattle.poet_text.specs.Refusals.{limit_of}
+use Rattle.poet_text.specs.Endings.{next}
+use Rattle.poet_text.specs.Printing.{no_bound_text}
 use Rattle.poet_cli.specs.Headline.{accepted_for}
 use Rattle.poet_cli.specs.Answers.{within, best_for, judge_by}
 

@@ -19,15 +19,15 @@ use Rattle.certificate.specs.Parsing.{cert_of_text}
 use Rattle.solver.specs.declared.analysis.AnalyseRefusal.{AnalyseRefusal}
 use Rattle.solver.specs.declared.analysis.AnalyseRefusal.TheVariants as solver
 use Rattle.solver.specs.Outcome.{best_of}
-use Rattle.poet_cli.specs.declared.refusal.Source.{Source}
-use Rattle.poet_cli.specs.declared.refusal.Source.TheVariants as source
-use Rattle.poet_cli.specs.declared.refusal.Refusal.{Refusal}
-use Rattle.poet_cli.specs.declared.refusal.Refusal.TheVariants.{Read, Sheet, Text, Limit, Points, Memory}
-use Rattle.poet_cli.specs.declared.printed.Printed.{Printed}
-use Rattle.poet_cli.specs.declared.printed.Printed.TheVariants as printed
-use Rattle.poet_cli.specs.Refusals.{limit_of}
-use Rattle.poet_cli.specs.Endings.{Ending, next}
-use Rattle.poet_cli.specs.Printing.{refused_text, no_bound_text}
+use Rattle.poet_text.specs.declared.refusal.Source.{Source}
+use Rattle.poet_text.specs.declared.refusal.Source.TheVariants as source
+use Rattle.poet_text.specs.declared.refusal.Refusal.{Refusal}
+use Rattle.poet_text.specs.declared.refusal.Refusal.TheVariants.{Read, Sheet, Text, Limit, Points, Memory}
+use Rattle.poet_text.specs.declared.printed.Printed.{Printed}
+use Rattle.poet_text.specs.declared.printed.Printed.TheVariants as printed
+use Rattle.poet_text.specs.Refusals.{limit_of}
+use Rattle.poet_text.specs.Endings.{Ending, next}
+use Rattle.poet_text.specs.Printing.{refused_text, no_bound_text}
 
 -- the bytes of a file, within the limit of its kind
 abbrev pub within : Source → Option (List ℕ) → Result (List ℕ) Refusal

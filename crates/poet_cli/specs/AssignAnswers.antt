@@ -12,10 +12,10 @@ use Rattle.assign.specs.declared.assignment.AssignRefusal.TheVariants as assign
 use Rattle.assign.specs.Sheets.{sheet_by, AreGood}
 use Rattle.assign.specs.Assignment.{priority_in, IsAssignment, IsOrder, AreInTime, IsStuck, NoneGood}
 use Rattle.assign.specs.Outcome.{assignment_of}
-use Rattle.poet_cli.specs.declared.refusal.Refusal.TheVariants.{Memory}
-use Rattle.poet_cli.specs.declared.printed.Printed.TheVariants as printed
-use Rattle.poet_cli.specs.Endings.{Ending}
-use Rattle.poet_cli.specs.Printing.{counted}
+use Rattle.poet_text.specs.declared.refusal.Refusal.TheVariants.{Memory}
+use Rattle.poet_text.specs.declared.printed.Printed.TheVariants as printed
+use Rattle.poet_text.specs.Endings.{Ending}
+use Rattle.poet_text.specs.Printing.{counted, no_order_text}
 
 -- task NAME priority P bound R
 unfoldable pub place_line : Task → Placed → List ℕ
@@ -30,10 +30,6 @@ places_text (task ∷ tasks) (place ∷ places) = place_line task place ++ place
 
 unfoldable pub assigned_text : SheetParts → List Placed → List ℕ
 assigned_text sheet places = codes "assigned\n" ++ places_text sheet.tasks places
-
--- no order at level P
-unfoldable pub no_order_text : ℕ → List ℕ
-no_order_text level = counted (codes "no order at level ") level ++ codes "\n"
 
 -- the assignment up to the horizon, by the sheet's own preemption and supply
 abbrev pub assignment_for : SheetParts → ℕ → Result (List Placed) AssignRefusal

@@ -10,19 +10,20 @@ use Rattle.conditions.specs.declared.failed.Failed.{Failed}
 use Rattle.cert_check.specs.declared.judging.Verdict.{Verdict}
 use Rattle.cert_check.specs.declared.judging.Verdict.TheVariants as verdict
 use Rattle.cert_check.specs.Verdicts.{cert_verdict_of, IsAccepted, IsRefused, AreSound}
-use Rattle.poet_cli.specs.declared.refusal.Source.TheVariants as source
-use Rattle.poet_cli.specs.declared.refusal.Refusal.{Refusal}
-use Rattle.poet_cli.specs.declared.refusal.Refusal.TheVariants.{Text, Memory}
-use Rattle.poet_cli.specs.declared.printed.Printed.TheVariants as printed
-use Rattle.poet_cli.specs.Endings.{Ending, next, IsSound}
-use Rattle.poet_cli.specs.Printing.{accepted_text, refused_text}
+use Rattle.poet_text.specs.declared.refusal.Source.TheVariants as source
+use Rattle.poet_text.specs.declared.refusal.Refusal.{Refusal}
+use Rattle.poet_text.specs.declared.refusal.Refusal.TheVariants.{Text, Memory}
+use Rattle.poet_text.specs.declared.printed.Printed.TheVariants as printed
+use Rattle.poet_text.specs.Endings.{Ending, next, IsSound}
+use Rattle.poet_text.specs.Printing.{accepted_text, refused_text}
+use Rattle.poet_text.specs.Tellings.{Told}
 use Rattle.poet_cli.specs.Answers.{file_in}
 use Rattle.poet_cli.specs.Refusing.{IsNoRefusal, MayRefuse, IsThis}
 use Rattle.poet_io.specs.Eaters.{Ate}
 use Rattle.poet_cli.specs.Readings.{ShelfAt, IsFileReading}
 use Rattle.poet_cli.specs.Steps.{Reads}
 use Rattle.poet_cli.specs.Origins.{OfFile}
-use Rattle.poet_cli.specs.Clauses.{Outside, Told}
+use Rattle.poet_cli.specs.Clauses.{Outside}
 
 -- what is printed of a verdict, or the line of the text's refusal
 abbrev pub verdict_ending : SheetParts → Verdict → Ending

@@ -1,35 +1,15 @@
 -- The answer of `infer`, and what its text says.
-use Rattle.std.specs.Prelude.{◌≡◌, ℕ, List, [], ◌∷◌, ◌++◌, codes, Ok}
-use Rattle.std.specs.List.{flat_map}
+use Rattle.std.specs.Prelude.{◌≡◌, ℕ, List, Ok}
 use Rattle.poet_io.specs.Texts.{Parses}
-use Rattle.curve.specs.declared.prefix.Step.{Step}
-use Rattle.curve.specs.CurveValue.{Curve}
 use Rattle.curve.specs.Validity.{IsCurve}
 use Rattle.curve_infer.specs.Text.{trace_format}
 use Rattle.curve_infer.specs.Parsing.{trace_of_text}
 use Rattle.curve_infer.specs.Curves.{Respects, inferred_curve, IsLeastCurve, KeepsCurves}
-use Rattle.poet_cli.specs.declared.refusal.Source.TheVariants as source
-use Rattle.poet_cli.specs.declared.printed.Printed.TheVariants.{Done}
-use Rattle.poet_cli.specs.Endings.{Ending, next}
+use Rattle.poet_text.specs.declared.refusal.Source.TheVariants as source
+use Rattle.poet_text.specs.declared.printed.Printed.TheVariants.{Done}
+use Rattle.poet_text.specs.Endings.{Ending, next}
+use Rattle.poet_text.specs.CurvePrinting.{curve_line}
 use Rattle.poet_cli.specs.Answers.{text_read}
-use Rattle.poet_cli.specs.Printing.{counted}
-
--- [TIME, VALUE]
-abbrev pub step_text : Step → List ℕ
-step_text step = counted (codes "[") step.time ++ (counted (codes ", ") step.value ++ codes "]")
-
--- a step that is not the first
-abbrev pub next_text : Step → List ℕ
-next_text step = codes ", " ++ step_text step
-
--- the steps, with a comma and a space between each two
-abbrev pub steps_text : List Step → List ℕ
-steps_text [] = []
-steps_text (step ∷ steps) = step_text step ++ flat_map next_text steps
-
--- curve = { horizon = H, steps = [[1, 2], [5, 3]] }
-unfoldable pub curve_line : Curve → List ℕ
-curve_line c = counted (codes "curve = { horizon = ") c.horizon ++ (codes ", steps = [" ++ (steps_text c.steps ++ codes "] }\n"))
 
 -- the answer of `infer` over the bytes of a trace
 abbrev pub infer_by : ℕ → List ℕ → Ending

@@ -2,9 +2,9 @@
 use Rattle.std.specs.Prelude.{ℕ, List, ◌++◌, codes, Ok}
 use Rattle.exercise.specs.declared.outcome.Exercise.{Exercise}
 use Rattle.exercise.specs.Exercises.{exercise_of}
-use Rattle.poet_cli.specs.declared.printed.Printed.TheVariants.{Done}
-use Rattle.poet_cli.specs.Endings.{Ending}
-use Rattle.poet_cli.specs.Printing.{counted}
+use Rattle.poet_text.specs.declared.printed.Printed.TheVariants.{Done}
+use Rattle.poet_text.specs.Endings.{Ending}
+use Rattle.poet_text.specs.Printing.{counted}
 
 -- exercise seed S tasks N points P greatest R jobs J done M worst W
 unfoldable pub exercise_line : ℕ → ℕ → Exercise → List ℕ

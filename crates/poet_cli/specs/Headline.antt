@@ -17,9 +17,9 @@ use Rattle.simulated_run.specs.SimulatedRun.{simulated_run}
 use Rattle.simulated_run.specs.Laws.{IsDense}
 use Rattle.exercise.specs.Exercises.{exercise_of, ExerciseHolds}
 use Rattle.cert_check.specs.Verdicts.{bounds_of, AreInTime}
-use Rattle.poet_cli.specs.declared.printed.Printed.TheVariants as printed
-use Rattle.poet_cli.specs.Printing.{accepted_text}
-use Rattle.poet_cli.specs.RunPrinting.{audit_print}
+use Rattle.poet_text.specs.declared.printed.Printed.TheVariants as printed
+use Rattle.poet_text.specs.Printing.{accepted_text}
+use Rattle.poet_text.specs.RunPrinting.{audit_print}
 use Rattle.poet_cli.specs.RunAnswers.{world_for, audit_for}
 use Rattle.poet_cli.specs.ExerciseAnswers.{exercise_line}
 

@@ -1,8 +1,3 @@
-pub mod Words
-pub mod Refusals
-pub mod Endings
-pub mod Printing
-pub mod RunPrinting
 pub mod Answers
 pub mod RunAnswers
 pub mod ExerciseAnswers

@@ -12,9 +12,9 @@ use Rattle.conditions.specs.Conditions.{failed_of}
 use Rattle.run_model.specs.declared.run.Run.{Run}
 use Rattle.run_text.specs.Text.{run_format}
 use Rattle.schedule_laws.specs.Compliance.{IsCompliant}
-use Rattle.poet_cli.specs.declared.printed.Printed.TheVariants as printed
-use Rattle.poet_cli.specs.Printing.{refused_text}
-use Rattle.poet_cli.specs.RunPrinting.{audit_print}
+use Rattle.poet_text.specs.declared.printed.Printed.TheVariants as printed
+use Rattle.poet_text.specs.Printing.{refused_text}
+use Rattle.poet_text.specs.RunPrinting.{audit_print}
 use Rattle.poet_cli.specs.RunAnswers.{audit_for}
 
 -- the certificate fails to meet a condition, and the text tells the first

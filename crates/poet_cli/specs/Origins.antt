@@ -5,8 +5,8 @@ use Rattle.poet_io.specs.Shelves.{Files}
 use Rattle.poet_io.specs.Sinks.{Appended}
 use Rattle.task_sheet.specs.SheetParts.{SheetParts}
 use Rattle.sheet_text.specs.SheetRows.{sheet_of_text}
-use Rattle.poet_cli.specs.declared.refusal.Source.{Source}
-use Rattle.poet_cli.specs.declared.refusal.Source.TheVariants as source
+use Rattle.poet_text.specs.declared.refusal.Source.{Source}
+use Rattle.poet_text.specs.declared.refusal.Source.TheVariants as source
 use Rattle.poet_cli.specs.Readings.{WasRead}
 
 -- the bytes of a file that is no sheet were read, and this holds of them

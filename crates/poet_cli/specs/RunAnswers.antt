@@ -14,12 +14,12 @@ use Rattle.simulator.specs.declared.refusal.SimRefusal.TheVariants as simulator
 use Rattle.simulator.specs.Simulations.{simulation_of}
 use Rattle.audit.specs.declared.verdict.AuditVerdict.{AuditVerdict}
 use Rattle.audit.specs.Verdicts.{verdict_of}
-use Rattle.poet_cli.specs.declared.refusal.Source.TheVariants as source
-use Rattle.poet_cli.specs.declared.refusal.Refusal.TheVariants.{Jobs, Segments, Memory}
-use Rattle.poet_cli.specs.declared.printed.Printed.TheVariants as printed
-use Rattle.poet_cli.specs.Endings.{Ending, next}
+use Rattle.poet_text.specs.declared.refusal.Source.TheVariants as source
+use Rattle.poet_text.specs.declared.refusal.Refusal.TheVariants.{Jobs, Segments, Memory}
+use Rattle.poet_text.specs.declared.printed.Printed.TheVariants as printed
+use Rattle.poet_text.specs.Endings.{Ending, next}
+use Rattle.poet_text.specs.RunPrinting.{audit_print}
 use Rattle.poet_cli.specs.Answers.{text_read}
-use Rattle.poet_cli.specs.RunPrinting.{audit_print}
 
 -- what a sheet is simulated for: its own policy, preemption and supply
 abbrev pub world_for : SheetParts → Mode → World

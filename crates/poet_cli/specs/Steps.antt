@@ -1,11 +1,11 @@
 -- The steps of a command, and what each gives.
 use Rattle.std.specs.Prelude.{◌≡◌, ℕ, List, Result, Ok, Err}
 use Rattle.task_sheet.specs.SheetParts.{SheetParts}
-use Rattle.poet_cli.specs.declared.refusal.Source.{Source}
-use Rattle.poet_cli.specs.declared.refusal.Source.TheVariants as source
-use Rattle.poet_cli.specs.declared.refusal.Refusal.{Refusal}
-use Rattle.poet_cli.specs.declared.refusal.Refusal.TheVariants.{Usage, Read, Memory}
-use Rattle.poet_cli.specs.Endings.{Ending}
+use Rattle.poet_text.specs.declared.refusal.Source.{Source}
+use Rattle.poet_text.specs.declared.refusal.Source.TheVariants as source
+use Rattle.poet_text.specs.declared.refusal.Refusal.{Refusal}
+use Rattle.poet_text.specs.declared.refusal.Refusal.TheVariants.{Usage, Read, Memory}
+use Rattle.poet_text.specs.Endings.{Ending}
 use Rattle.poet_cli.specs.Readings.{ShelfAt, IsFileReading}
 use Rattle.poet_cli.specs.Answers.{sheet_by}
 

@@ -16,15 +16,15 @@ use Rattle.run_model.specs.declared.run.Run.{Run}
 use Rattle.run_model.specs.Runs.{job_at, IsDone}
 use Rattle.schedule_laws.specs.Compliance.{IsValidRun, IsWithinCurves, IsWorkConserving, KeepsSegments, KeepsPolicy}
 use Rattle.cert_check.specs.Verdicts.{bounds_of}
-use Rattle.poet_cli.specs.declared.refusal.Source.TheVariants as source
+use Rattle.poet_text.specs.declared.refusal.Source.TheVariants as source
 use Rattle.assign.specs.declared.assignment.Placed.{Placed}
 use Rattle.assign.specs.Sheets.{sheet_by}
 use Rattle.assign.specs.Assignment.{priority_in, IsOrder, AreInTime}
-use Rattle.poet_cli.specs.Words.{Asked, CheckOf, AnalyseOf, SimulateOf, AuditOf, ReportOf, ExerciseOf, UpgradeOf, AssignOf, PromiseOf, InferOf}
+use Rattle.poet_text.specs.Words.{Asked, CheckOf, AnalyseOf, SimulateOf, AuditOf, ReportOf, ExerciseOf, UpgradeOf, AssignOf, PromiseOf, InferOf}
+use Rattle.poet_text.specs.PromisePrinting.{promise_text}
 use Rattle.poet_cli.specs.Answers.{best_for}
 use Rattle.poet_cli.specs.ReportAnswers.{report_of}
 use Rattle.poet_cli.specs.AssignAnswers.{assigned_text}
-use Rattle.poet_cli.specs.PromiseAnswers.{promise_text}
 use Rattle.poet_cli.specs.Headline.{accepted_for}
 use Rattle.poet_cli.specs.Origins.{OfOneFile, OfTwoFiles}
 

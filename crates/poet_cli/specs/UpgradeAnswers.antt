@@ -11,12 +11,12 @@ use Rattle.certificate.specs.Parsing.{cert_of_text}
 use Rattle.conditions.specs.declared.failed.Cond.TheVariants.{K1}
 use Rattle.conditions.specs.Conditions.{of_cert}
 use Rattle.conditions.specs.Filled.{with_terms, FailsAlike}
-use Rattle.poet_cli.specs.declared.printed.Printed.TheVariants as printed
-use Rattle.poet_cli.specs.declared.refusal.Source.TheVariants as source
-use Rattle.poet_cli.specs.declared.refusal.Refusal.TheVariants.{LongUpgrade}
-use Rattle.poet_cli.specs.Refusals.{limit_of}
-use Rattle.poet_cli.specs.Endings.{Ending, next}
-use Rattle.poet_cli.specs.Printing.{refused_text}
+use Rattle.poet_text.specs.declared.printed.Printed.TheVariants as printed
+use Rattle.poet_text.specs.declared.refusal.Source.TheVariants as source
+use Rattle.poet_text.specs.declared.refusal.Refusal.TheVariants.{LongUpgrade}
+use Rattle.poet_text.specs.Refusals.{limit_of}
+use Rattle.poet_text.specs.Endings.{Ending, next}
+use Rattle.poet_text.specs.Printing.{refused_text}
 use Rattle.poet_cli.specs.Answers.{text_read}
 
 -- a certificate in the second version, with the terms of each point, by the sheet's own policy and preemption

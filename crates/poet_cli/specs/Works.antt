@@ -3,10 +3,10 @@ use Rattle.std.specs.Prelude.{ℕ, Bool, List, IfOk, IfErr}
 use Rattle.task_sheet.specs.SheetParts.{SheetParts}
 use Rattle.certificate.specs.declared.cert.Cert.{Cert}
 use Rattle.simulated_run.specs.declared.mode.Mode.{Mode}
-use Rattle.poet_cli.specs.declared.refusal.Source.{Source}
-use Rattle.poet_cli.specs.declared.refusal.Source.TheVariants as source
-use Rattle.poet_cli.specs.declared.refusal.Refusal.{Refusal}
-use Rattle.poet_cli.specs.Endings.{Ending, IsSound}
+use Rattle.poet_text.specs.declared.refusal.Source.{Source}
+use Rattle.poet_text.specs.declared.refusal.Source.TheVariants as source
+use Rattle.poet_text.specs.declared.refusal.Refusal.{Refusal}
+use Rattle.poet_text.specs.Endings.{Ending, IsSound}
 use Rattle.poet_cli.specs.Answers.{judge_by, analyse_by}
 use Rattle.poet_cli.specs.RunAnswers.{simulate_by, audit_by}
 use Rattle.poet_cli.specs.CurveAnswers.{infer_by, InferenceHolds}

@@ -7,13 +7,11 @@ ghost use Rattle.poet_cli.specs.Steps.{OneFile};
 ghost use Rattle.poet_cli.specs.Works.{AnalyseDoes};
 
 use crate::on_sheet::best;
-use crate::printed::{Ending, Printed};
-use crate::printing::{name_at, no_bound};
 use crate::reading::sheet_at;
-use crate::refusal::Refusal;
 use certificate::write_cert;
 use lists::{Items, Text};
 use poet_io::Shelf;
+use poet_text::{Ending, Printed, Refusal, name_at, no_bound};
 use solver::AnalyseRefusal;
 use std::alloc::{AllocError, Global};
 use task_sheet::Sheet;

@@ -1,32 +1,33 @@
 //! How `assign` ends.
 ghost use Rattle.std.specs.Prelude.{◌≡◌, ◌≤◌, ◌++◌, length, OnOk, IfOk};
 ghost use Rattle.lists.specs.Limits.{greatest_number};
-ghost use Rattle.poet_cli.specs.AssignAnswers.{place_line, places_text, assigned_text, no_order_text};
+ghost use Rattle.poet_cli.specs.AssignAnswers.{place_line, places_text, assigned_text};
 ghost use Rattle.poet_cli.specs.Readings.{shelf_at};
 ghost use Rattle.poet_cli.specs.Steps.{OneFile};
 ghost use Rattle.poet_cli.specs.Works.{AssignDoes};
 
-use crate::printed::{Ending, Printed};
-use crate::printing::push_counted;
 use crate::reading::sheet_at;
-use crate::refusal::Refusal;
 use assign::{AssignRefusal, Placed, assign};
 use lists::Items;
 use poet_io::Shelf;
+use poet_text::{Ending, Printed, Refusal, no_order, push_task_line};
 use preemption::PerTask;
 use std::alloc::{AllocError, Global};
 use task_sheet::{Sheet, Task};
 
 /// Appends the line of a task and its place.
-#[tactic(auto, unfolding(crate::specs::AssignAnswers::place_line))]
+#[tactic(auto, unfolding(crate::specs::AssignAnswers::place_line, poet_text::specs::Printing::task_line))]
 fn push_place(out: &mut Vec<u8>, task: &Task, place: Placed) -> Result<(), AllocError>
     ensures { OnOk result (out.new.items ≡ out.old.items ++ place_line task.now place) }
 {
-    out.extend_from_slice("task ".as_bytes())?;
-    out.extend_from_slice(task.name.as_str().as_bytes())?;
-    push_counted(out, " priority ", place.priority)?;
-    push_counted(out, " bound ", place.bound)?;
-    out.extend_from_slice("\n".as_bytes())
+    push_task_line(
+        out,
+        task,
+        " priority ",
+        place.priority,
+        " bound ",
+        place.bound,
+    )
 }
 
 /// Appends a line for each task.
@@ -49,17 +50,6 @@ fn assigned(alloc: Global, sheet: &Sheet, places: &[Placed]) -> Result<Items<u8>
 {
     let mut text = Vec::from_slice(alloc, "assigned\n".as_bytes())?;
     push_places(&mut text, sheet, places)?;
-    Ok(Items::new(text))
-}
-
-/// That no task may take this level.
-#[tactic(auto, unfolding(crate::specs::AssignAnswers::no_order_text))]
-fn no_order(alloc: Global, level: u32) -> Result<Items<u8>, AllocError>
-    ensures { IfOk result (λ text. text ≡ no_order_text level) }
-{
-    let mut text = Vec::new(alloc);
-    push_counted(&mut text, "no order at level ", u64::from(level))?;
-    text.extend_from_slice("\n".as_bytes())?;
     Ok(Items::new(text))
 }
 

@@ -1,8 +1,8 @@
 //! How `audit` ends.
 ghost use Rattle.std.specs.Prelude.{◌≡◌, IfOk};
 ghost use Rattle.run_text.specs.Text.{IsWithinLimits};
-ghost use Rattle.poet_cli.specs.Endings.{IsSound};
-ghost use Rattle.poet_cli.specs.RunPrinting.{audit_print, IsPrintableVerdict};
+ghost use Rattle.poet_text.specs.Endings.{IsSound};
+ghost use Rattle.poet_text.specs.RunPrinting.{audit_print, IsPrintableVerdict};
 ghost use Rattle.poet_cli.specs.RunAnswers.{audit_for};
 ghost use Rattle.poet_cli.specs.Headline.{RunComplies};
 ghost use Rattle.poet_cli.specs.Objections.{RunBreaks};
@@ -11,11 +11,9 @@ ghost use Rattle.poet_cli.specs.Steps.{TwoFiles};
 ghost use Rattle.poet_cli.specs.Works.{AuditDoes};
 
 use crate::on_sheet::verdict_on;
-use crate::printed::{Ending, Printed};
 use crate::reading::{read_file, sheet_at};
-use crate::refusal::{Refusal, Source};
-use crate::run_printing::print_of;
 use poet_io::{Shelf, TextRefusal};
+use poet_text::{Ending, Printed, Refusal, Source, print_of};
 use run_model::Run;
 use run_text::read_run;
 use std::alloc::{AllocError, Global};

@@ -3,37 +3,33 @@ ghost use Rattle.std.specs.Prelude.{◌≡◌, ◌≢◌, [], ◌∷◌, Some, E
 ghost use Rattle.preemption.specs.Kinds.{per_task_meaning};
 ghost use Rattle.supply.specs.Promises.{sbf_of};
 ghost use Rattle.cert_check.specs.Standing.{IsAt};
-ghost use Rattle.poet_cli.specs.Words.{CheckOf};
+ghost use Rattle.poet_text.specs.Words.{CheckOf};
+ghost use Rattle.poet_text.specs.declared.refusal.Source.TheVariants as source;
+ghost use Rattle.poet_text.specs.declared.refusal.Refusal.TheVariants.{Memory};
+ghost use Rattle.poet_text.specs.Tellings.{outlets};
 ghost use Rattle.poet_cli.specs.Openings.{OpensFront};
 ghost use Rattle.poet_cli.specs.Origins.{WasPrinted};
-ghost use Rattle.poet_cli.specs.declared.refusal.Source.TheVariants as source;
-ghost use Rattle.poet_cli.specs.declared.refusal.Refusal.TheVariants.{Memory};
 ghost use Rattle.poet_cli.specs.Readings.{shelf_at, IsFileReading};
 ghost use Rattle.poet_cli.specs.CertVerdicts.{rest_of, WasFed, MayRest, RestHeadline, RestObjection, Judged, JudgedUnless};
-ghost use Rattle.poet_cli.specs.Clauses.{outlets, outside, Answers, Did, LeavesShelf};
+ghost use Rattle.poet_cli.specs.Clauses.{outside, Answers, Did, LeavesShelf};
 
 use crate::on_sheet::judged_on;
 use crate::reading::sheet_at;
-use crate::refusal::{Refusal, Source};
-use crate::telling::tell;
 use crate::verdict_telling::tell_verdict;
 use cert_check::Checker;
 use certificate::text_has_one_reading;
-use poet_io::{PourRefusal, Shelf, Sink, pour};
+use poet_io::{Eater, PourRefusal, Shelf, Sink, pour};
+use poet_text::{Refusal, Source, tell};
 use policy::Policy;
 use preemption::{PerTask, Preemption};
 use std::alloc::Global;
 use supply::Supply;
 use task_sheet::Sheet;
 
-/// Feeds a checker the certificate of a file.
-fn feed_file<P: Policy, M: Preemption, S: Supply, H: Shelf>(
-    checker: &mut Checker<'_, P, M, S>,
-    name: &str,
-    shelf: &mut H,
-) -> Result<(), Refusal>
-    ensures fed { IfOk result (λ _. WasFed (IsAt P.meaning M.cuts S.sbf) checker.old checker.new
-        name.now
+/// Feeds an eater the certificate of a file.
+#[tactic(auto, using(crate::proofs::PourFacts::poured_whole, crate::proofs::PourFacts::poured_fault, crate::proofs::PourFacts::poured_absent, crate::proofs::PourFacts::poured_long))]
+fn feed_file<F: Eater, H: Shelf>(eater: &mut F, name: &str, shelf: &mut H) -> Result<(), Refusal>
+    ensures fed { IfOk result (λ _. WasFed F.stands eater.old eater.new name.now
         (shelf_at H.files H.faults H.is_open H.log shelf.old)
         (shelf_at H.files H.faults H.is_open H.log shelf.new)) }
     ensures stopped { IfErr result (λ refusal. IsFileReading source.Certificate name.now
@@ -41,7 +37,7 @@ fn feed_file<P: Policy, M: Preemption, S: Supply, H: Shelf>(
         (shelf_at H.files H.faults H.is_open H.log shelf.new) (Err refusal)) }
     ensures no_memory { IfErr result (λ refusal. refusal ≢ Memory) }
 {
-    match pour(shelf, name, Source::Certificate.limit(), checker) {
+    match pour(shelf, name, Source::Certificate.limit(), eater) {
         Ok(()) => Ok(()),
         Err(PourRefusal::Fault) => Err(Refusal::Read(Source::Certificate)),
         Err(PourRefusal::Absent) => Err(Refusal::Read(Source::Certificate)),

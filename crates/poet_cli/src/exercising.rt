@@ -3,27 +3,32 @@ ghost use Rattle.std.specs.Prelude.{◌≡◌, ◌≤◌, IfOk};
 ghost use Rattle.poet_cli.specs.ExerciseAnswers.{exercise_line};
 ghost use Rattle.poet_cli.specs.Works.{ExerciseDoes};
 
-use crate::printed::{Ending, Printed};
-use crate::printing::push_counted;
-use crate::refusal::Refusal;
 use exercise::{Exercise, exercise};
 use lists::Items;
+use poet_text::{Ending, Printed, Refusal, push_jobs, push_two};
 use std::alloc::{AllocError, Global};
 
 /// The line of an exercise.
-#[tactic(auto, unfolding(crate::specs::ExerciseAnswers::exercise_line))]
+#[tactic(auto, unfolding(crate::specs::ExerciseAnswers::exercise_line, poet_text::specs::RunPrinting::jobs_text))]
 fn line_of(alloc: Global, seed: u64, tasks: u32, one: &Exercise) -> Result<Items<u8>, AllocError>
     ensures { IfOk result (λ text. text ≡ exercise_line seed tasks one.now) }
 {
     let mut text = Vec::new(alloc);
-    push_counted(&mut text, "exercise seed ", seed)?;
-    push_counted(&mut text, " tasks ", u64::from(tasks))?;
-    push_counted(&mut text, " points ", one.points)?;
-    push_counted(&mut text, " greatest ", one.greatest)?;
-    push_counted(&mut text, " jobs ", one.jobs)?;
-    push_counted(&mut text, " done ", one.done)?;
-    push_counted(&mut text, " worst ", one.worst)?;
-    text.extend_from_slice("\n".as_bytes())?;
+    push_two(
+        &mut text,
+        "exercise seed ",
+        seed,
+        " tasks ",
+        u64::from(tasks),
+    )?;
+    push_two(
+        &mut text,
+        " points ",
+        one.points,
+        " greatest ",
+        one.greatest,
+    )?;
+    push_jobs(&mut text, one.jobs, one.done, one.worst)?;
     Ok(Items::new(text))
 }
 

@@ -16,11 +16,12 @@ ghost use Rattle.simulated_run.specs.Laws.{IsDense};
 ghost use Rattle.simulator.specs.Simulations.{IsSimulation};
 ghost use Rattle.audit.specs.Verdicts.{TellsCompliance};
 ghost use Rattle.solver.specs.Outcome.{IsBestAnswer};
+ghost use Rattle.poet_text.specs.Tellings.{outlets};
 ghost use Rattle.poet_cli.specs.Analyses.{IsBestBy, IsNoneBy};
 ghost use Rattle.poet_cli.specs.Answers.{failed_for};
 ghost use Rattle.poet_cli.specs.Readings.{shelf_at};
 ghost use Rattle.poet_cli.specs.CertVerdicts.{JudgedUnless};
-ghost use Rattle.poet_cli.specs.Clauses.{outlets, outside};
+ghost use Rattle.poet_cli.specs.Clauses.{outside};
 ghost use Rattle.poet_cli.specs.RunAnswers.{world_for, audit_for};
 ghost use Rattle.poet_cli.specs.UpgradeAnswers.{upgraded};
 

@@ -3,8 +3,8 @@ ghost use Rattle.std.specs.Prelude.{◌-◌, ◌<◌, ◌^◌, Ok, Err, IfOk, If
 ghost use Rattle.poet_cli.specs.Readings.{shelf_at, IsFileReading};
 ghost use Rattle.poet_cli.specs.Steps.{ReadsSheet};
 
-use crate::refusal::{Refusal, Source};
 use poet_io::{ReadRefusal, Shelf, read_whole};
+use poet_text::{Refusal, Source};
 use sheet_text::read_sheet;
 use std::alloc::Global;
 use task_sheet::{Sheet, SheetRefusal};

@@ -6,11 +6,10 @@ ghost use Rattle.poet_cli.specs.Steps.{OneFile};
 ghost use Rattle.poet_cli.specs.Works.{SimulateDoes};
 
 use crate::on_sheet::simulation;
-use crate::printed::{Ending, Printed};
 use crate::reading::sheet_at;
-use crate::refusal::Refusal;
 use lists::Items;
 use poet_io::Shelf;
+use poet_text::{Ending, Printed, Refusal};
 use run_text::write_run;
 use simulated_run::Mode;
 use simulator::SimRefusal;

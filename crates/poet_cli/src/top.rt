@@ -1,27 +1,26 @@
 //! The top call.
 ghost use Rattle.std.specs.Prelude.{◌≡◌, ◌↔◌, Some, None};
-ghost use Rattle.poet_cli.specs.Words.{asked_in, asked_by, IsInRange};
+ghost use Rattle.poet_text.specs.Words.{asked_in, asked_by, IsInRange};
+ghost use Rattle.poet_text.specs.Tellings.{outlets};
 ghost use Rattle.poet_cli.specs.Openings.{OpensFront};
 ghost use Rattle.poet_cli.specs.Origins.{WasPrinted};
 ghost use Rattle.poet_cli.specs.Readings.{shelf_at};
 ghost use Rattle.poet_cli.specs.Program.{Does, answer_of, MayFail, files_of, Headline, Objection};
 ghost use Rattle.poet_cli.specs.TableHeadline.{TableHeadline};
-ghost use Rattle.poet_cli.specs.Clauses.{outlets, outside, Answers, Did, LeavesShelf};
+ghost use Rattle.poet_cli.specs.Clauses.{outside, Answers, Did, LeavesShelf};
 
 use crate::analysing::analyse_ending;
 use crate::assigning::assign_ending;
 use crate::auditing::audit_ending;
 use crate::checking::check;
 use crate::exercising::exercise_ending;
-use crate::grammar::{Command, command_of};
 use crate::inferring::infer_ending;
 use crate::promising::promise_ending;
-use crate::refusal::Refusal;
 use crate::reporting::report_ending;
 use crate::simulating::simulate_ending;
-use crate::telling::tell;
 use crate::upgrading::upgrade_ending;
 use poet_io::{Shelf, Sink};
+use poet_text::{Command, Refusal, command_of, tell};
 use std::alloc::Global;
 
 /// Does what a command says, and answers the status.

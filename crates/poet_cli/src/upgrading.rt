@@ -6,14 +6,12 @@ ghost use Rattle.poet_cli.specs.Steps.{TwoFiles};
 ghost use Rattle.poet_cli.specs.Works.{UpgradeDoesOf, UpgradeDoes};
 
 use crate::on_sheet::with_terms;
-use crate::printed::{Ending, Printed};
-use crate::printing::refused;
 use crate::reading::{read_file, sheet_at};
-use crate::refusal::{Refusal, Source};
 use certificate::{Cert, read_cert, text_len, write_cert};
 use conditions::{Cond, Failed};
 use lists::Items;
 use poet_io::{Shelf, TextRefusal};
+use poet_text::{Ending, Printed, Refusal, Source, refused};
 use std::alloc::Global;
 use task_sheet::Sheet;
 

@@ -6,4 +6,3 @@ pub mod CurveRows
 pub mod CutRows
 pub mod TaskRows
 pub mod SheetRows
-pub mod Printed

@@ -1,4 +1,4 @@
-//! Tests of sheet_text and report: texts written by hand.
+//! Tests of sheet_text, sheet_print and report: texts written by hand.
 #![tactic(auto)]
 
 #[cfg(test)]

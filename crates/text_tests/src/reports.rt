@@ -2,6 +2,8 @@
 use certificate::read_cert;
 use report::{json_report, text_report};
 use sheet_text::read_sheet;
+use std::alloc::Global;
+use std::process::Abort;
 use std::test::Fail;
 
 /// A sheet, a certificate, its report as a table, and its report as JSON.
@@ -68,17 +70,44 @@ fn reports_name_policies_by_points(rt: HostRuntime) -> Result<(), Fail> {
     Ok(())
 }
 
+/// Compares the table of the sheet and the certificate that these texts say.
+fn assert_table(
+    rt: &impl Abort,
+    alloc: Global,
+    sheet: &[u8],
+    cert: &[u8],
+    text: &[u8],
+) -> Result<(), Fail> {
+    let sheet = read_sheet(alloc, sheet)?;
+    let cert = read_cert(alloc, cert)?;
+    assert_eq!(rt; cert.entries.len(), sheet.len() as usize);
+    let table = text_report(alloc, &sheet, &cert)?;
+    assert_eq!(rt; table.as_slice(), text);
+    Ok(())
+}
+
+/// The same of the report as JSON.
+fn assert_object(
+    rt: &impl Abort,
+    alloc: Global,
+    sheet: &[u8],
+    cert: &[u8],
+    json: &[u8],
+) -> Result<(), Fail> {
+    let sheet = read_sheet(alloc, sheet)?;
+    let cert = read_cert(alloc, cert)?;
+    assert_eq!(rt; cert.entries.len(), sheet.len() as usize);
+    let object = json_report(alloc, &sheet, &cert)?;
+    assert_eq!(rt; object.as_slice(), json);
+    Ok(())
+}
+
 #[test]
 fn reports_have_these_bytes(rt: HostRuntime) -> Result<(), Fail> {
     let alloc = rt.alloc();
     for (sheet, cert, text, json) in [TWO_TASKS, LONG_NAMES] {
-        let sheet = read_sheet(alloc, sheet)?;
-        let cert = read_cert(alloc, cert)?;
-        assert_eq!(rt; cert.entries.len(), sheet.len() as usize);
-        let table = text_report(alloc, &sheet, &cert)?;
-        assert_eq!(rt; table.as_slice(), text);
-        let object = json_report(alloc, &sheet, &cert)?;
-        assert_eq!(rt; object.as_slice(), json);
+        assert_table(&rt, alloc, sheet, cert, text)?;
+        assert_object(&rt, alloc, sheet, cert, json)?;
     }
     Ok(())
 }

@@ -1,8 +1,10 @@
 //! Sheets written by hand.
-use sheet_text::{print_sheet, read_sheet};
+use sheet_print::print_sheet;
+use sheet_text::read_sheet;
 use std::alloc::{AllocError, Global};
+use std::process::Abort;
 use std::test::Fail;
-use task_sheet::{Field, Place, PolicyKind, SheetRefusal};
+use task_sheet::{Field, Place, PolicyKind, Sheet, SheetRefusal};
 
 /// Texts with the first rule that each breaks.
 const REFUSED: [(&[u8], SheetRefusal); 23] = [
@@ -184,11 +186,16 @@ const EVERY_FORM: &[u8] = b"policy = \"elf\"\n
 [task.curve]\nhorizon = 9\nsteps = [[1, 1]]\n
 [task.preemption]\nfloating = 3\n";
 
+/// The text is no sheet, by this rule.
+fn assert_refused(rt: &impl Abort, alloc: Global, text: &[u8], refusal: SheetRefusal) {
+    let found = read_sheet(alloc, text).err();
+    assert_eq!(rt; found, Some(refusal));
+}
+
 #[test]
 fn refused_sheets(rt: HostRuntime) {
     for (text, refusal) in REFUSED {
-        let found = read_sheet(rt.alloc(), text).err();
-        assert_eq!(rt; found, Some(refusal));
+        assert_refused(&rt, rt.alloc(), text, refusal);
     }
 }
 
@@ -215,19 +222,19 @@ fn too_many_tasks_and_brackets(rt: HostRuntime) -> Result<(), Fail> {
     let alloc = rt.alloc();
     let place = Place::Top;
     let tasks = pieces(alloc, b"policy = \"fp\"\n", b"[[task]]\n", b"", 257)?;
-    let many = Some(SheetRefusal::Range {
+    let many = SheetRefusal::Range {
         place,
         field: Field::Task,
-    });
-    assert_eq!(rt; read_sheet(alloc, &tasks).err(), many);
+    };
+    assert_refused(&rt, alloc, &tasks, many);
     let nested = pieces(alloc, b"policy = ", b"[", b"]", 80)?;
-    let list = Some(SheetRefusal::Kind {
+    let list = SheetRefusal::Kind {
         place,
         field: Field::Policy,
-    });
-    assert_eq!(rt; read_sheet(alloc, &nested).err(), list);
+    };
+    assert_refused(&rt, alloc, &nested, list);
     let deep = pieces(alloc, b"policy = ", b"[", b"]", 81)?;
-    assert_eq!(rt; read_sheet(alloc, &deep).err(), Some(SheetRefusal::Text));
+    assert_refused(&rt, alloc, &deep, SheetRefusal::Text);
     Ok(())
 }
 
@@ -241,23 +248,23 @@ fn reads_other_spellings(rt: HostRuntime) -> Result<(), Fail> {
     Ok(())
 }
 
+fn assert_two_tasks(rt: &impl Abort, sheet: &Sheet) {
+    assert_eq!(rt; sheet.len(), 2);
+    assert_eq!(rt; sheet.task(1).name.as_str(), "b");
+    assert_eq!(rt; sheet.task(1).curve.at(7), 2);
+}
+
 #[test]
 fn prints_two_tasks(rt: HostRuntime) -> Result<(), Fail> {
     let sheet = read_sheet(rt.alloc(), TWO_TASKS)?;
     let text = print_sheet(rt.alloc(), &sheet)?;
     assert!(rt; text.as_slice().starts_with(FIRST_PRINTED));
     let again = read_sheet(rt.alloc(), text.as_slice())?;
-    assert_eq!(rt; again.len(), 2);
-    assert_eq!(rt; again.task(1).name.as_str(), "b");
-    assert_eq!(rt; again.task(1).curve.at(7), 2);
+    assert_two_tasks(&rt, &again);
     Ok(())
 }
 
-#[test]
-fn prints_every_form(rt: HostRuntime) -> Result<(), Fail> {
-    let sheet = read_sheet(rt.alloc(), EVERY_FORM)?;
-    let text = print_sheet(rt.alloc(), &sheet)?;
-    assert_eq!(rt; text.as_slice(), EVERY_FORM);
+fn assert_every_form(rt: &impl Abort, sheet: &Sheet) {
     assert_eq!(rt; sheet.len(), 3);
     assert_eq!(rt; sheet.task(0).jitter, 1_000_000_000);
     assert_eq!(rt; sheet.task(2).jitter, 0);
@@ -265,5 +272,13 @@ fn prints_every_form(rt: HostRuntime) -> Result<(), Fail> {
     assert_eq!(rt; sheet.task(0).point, -1_000_000_000);
     assert_eq!(rt; sheet.task(1).point, 0);
     assert_eq!(rt; sheet.task(2).point, 1);
+}
+
+#[test]
+fn prints_every_form(rt: HostRuntime) -> Result<(), Fail> {
+    let sheet = read_sheet(rt.alloc(), EVERY_FORM)?;
+    let text = print_sheet(rt.alloc(), &sheet)?;
+    assert_eq!(rt; text.as_slice(), EVERY_FORM);
+    assert_every_form(&rt, &sheet);
     Ok(())
 }

@@ -1,6 +1,8 @@
 //! Sheets whose supply is a cyclic time table.
-use sheet_text::{print_sheet, read_sheet};
+use sheet_print::print_sheet;
+use sheet_text::read_sheet;
 use std::alloc::{AllocError, Global};
+use std::process::Abort;
 use std::test::Fail;
 use task_sheet::{Field, Place, SheetRefusal};
 
@@ -119,12 +121,23 @@ fn with_supply(alloc: Global, lines: &str, after: &str) -> Result<String, AllocE
     Ok(text)
 }
 
+/// The sheet whose supply has these lines is none, by this rule.
+fn assert_refused(
+    rt: &impl Abort,
+    alloc: Global,
+    lines: &str,
+    refusal: SheetRefusal,
+) -> Result<(), Fail> {
+    let text = with_supply(alloc, lines, "")?;
+    let found = read_sheet(alloc, text.as_bytes()).err();
+    assert_eq!(rt; found, Some(refusal));
+    Ok(())
+}
+
 #[test]
 fn time_table_refused(rt: HostRuntime) -> Result<(), Fail> {
     for (lines, refusal) in REFUSED {
-        let text = with_supply(rt.alloc(), lines, "")?;
-        let found = read_sheet(rt.alloc(), text.as_bytes()).err();
-        assert_eq!(rt; found, Some(refusal), "{lines}");
+        assert_refused(&rt, rt.alloc(), lines, refusal)?;
     }
     Ok(())
 }
@@ -138,10 +151,18 @@ fn too_many_slots(rt: HostRuntime) -> Result<(), Fail> {
             lines.push_str("[0, 1],")?;
         }
         lines.push_str("]\n")?;
-        let text = with_supply(rt.alloc(), lines.as_str(), "")?;
-        let found = read_sheet(rt.alloc(), text.as_bytes()).err();
-        assert_eq!(rt; found, Some(refusal));
+        assert_refused(&rt, rt.alloc(), lines.as_str(), refusal)?;
     }
+    Ok(())
+}
+
+/// The sheet whose supply has the lines of this table is printed with this promise.
+fn assert_promised(rt: &impl Abort, alloc: Global, table: &str, promise: &str) -> Result<(), Fail> {
+    let text = with_supply(alloc, table, AFTER)?;
+    let sheet = read_sheet(alloc, text.as_bytes())?;
+    let printed = print_sheet(alloc, &sheet)?;
+    let want = with_supply(alloc, promise, AFTER)?;
+    assert_eq!(rt; printed.as_slice(), want.as_bytes());
     Ok(())
 }
 
@@ -149,11 +170,7 @@ fn too_many_slots(rt: HostRuntime) -> Result<(), Fail> {
 #[test]
 fn time_table(rt: HostRuntime) -> Result<(), Fail> {
     for (table, promise) in PROMISED {
-        let text = with_supply(rt.alloc(), table, AFTER)?;
-        let sheet = read_sheet(rt.alloc(), text.as_bytes())?;
-        let printed = print_sheet(rt.alloc(), &sheet)?;
-        let want = with_supply(rt.alloc(), promise, AFTER)?;
-        assert_eq!(rt; printed.as_slice(), want.as_bytes());
+        assert_promised(&rt, rt.alloc(), table, promise)?;
     }
     Ok(())
 }

@@ -8,10 +8,11 @@ use Rattle.meter.proofs.moves.move_back.Goals as goal
 
 pub returns-then-before-x : goal.returns-then-before-x
 returns-then-before-x g c =
-    let sheet = c.args.sheet.now in
     let o = c.args.o in
     let places = c.args.tracks.now.places.items in
     let before : c.index-before.result.now ≡ place_of places o =
     get_or_read places o c.index-before.result.now (omega (arith, c.requires.tracking.count, c.requires.o)) c.index-before.ensures no_place in
-    end_stays g.P.Policy.meaning sheet c.args.i c.args.x o c.requires.o c.args.tracks.now c.requires.tracking
-    (omega (arith, ap (λ (s : Place). s.end.from) before, ap (λ (task : Task). task.jitter) c.task.ensures.task)) c.requires.still
+    end_stays g.P.Policy.meaning c.args.sheet.now c.args.i c.args.x o c.args.tracks.now c.requires.tracking (record {
+      begun = omega (arith, ap (λ (s : Place). s.end.from) before, ap (λ (task : Task). task.jitter) c.task.ensures.task);
+      open_yet = c.requires.still;
+    })

@@ -13,12 +13,11 @@ loop-tracks-preserved g c =
 pub loop-tracks-smaller : goal.loop-tracks-smaller
 loop-tracks-smaller g c =
     let o = c.first-o.result in
-    let tracking = c.loop-tracks.invariant.tracking in
     let there = c.least.ensures.stands in
-    let within : o < length c.args.sheet.now.tasks = omega (arith, c.first-o.ensures.within, tracking.full) in
+    let within : o < length c.args.sheet.now.tasks = omega (arith, c.first-o.ensures.within, c.loop-tracks.invariant.moving.tracking.full) in
     let low : number_of c.loop-tracks.tracks.untils o ≤ c.args.x =
     omega (arith, c.loop-tracks-test.true, there.is, c.first-o.ensures.least there.at there.within) in
-    rise_smaller g.P.Policy.meaning c.args.sheet.now c.args.i c.args.x c.requires.end o _ _ within tracking c.move_end.ensures low
+    rise_smaller g.P.Policy.meaning c.args.sheet.now c.args.i c.args.x o _ _ within c.move_end.ensures low
 
 pub returns : goal.returns
 returns g c =

@@ -1,4 +1,4 @@
-use Rattle.poet_cli.proofs.SeenFacts.{printable}
+use Rattle.poet_text.proofs.SeenFacts.{printable}
 use Rattle.poet_cli.proofs.auditing.print_on.Goals as goal
 
 pub print_of-requires : goal.print_of-requires

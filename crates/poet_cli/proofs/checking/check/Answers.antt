@@ -1,6 +1,7 @@
 use Rattle.std.proofs.Common.{refl}
+use Rattle.poet_text.specs.Tellings.{outlets}
 use Rattle.poet_cli.specs.Readings.{shelf_at}
-use Rattle.poet_cli.specs.Clauses.{outlets, outside}
+use Rattle.poet_cli.specs.Clauses.{outside}
 use Rattle.poet_cli.proofs.VerdictFacts.{check_did, check_refused}
 use Rattle.poet_cli.proofs.checking.check.Goals as goal
 

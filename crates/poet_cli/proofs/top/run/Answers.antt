@@ -1,5 +1,5 @@
 use Rattle.std.proofs.Common.{None, Err, refl}
-use Rattle.poet_cli.specs.declared.refusal.Refusal.TheVariants.{Usage}
+use Rattle.poet_text.specs.declared.refusal.Refusal.TheVariants.{Usage}
 use Rattle.poet_cli.proofs.DoesFacts.{told_did}
 use Rattle.poet_cli.proofs.top.run.Goals as goal
 

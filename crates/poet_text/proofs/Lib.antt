@@ -1,0 +1,4 @@
+mod WritingFacts
+pub mod SeenFacts
+pub mod LengthFacts
+mod VerdictTexts

@@ -1,0 +1,2 @@
+pub mod PrintedFacts
+pub mod ReadsBack

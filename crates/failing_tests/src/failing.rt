@@ -140,16 +140,16 @@ fn assert_call(rt: &impl Abort, alloc: Global, row: &Row, call: usize) -> Result
     let (first, second) = (row.files.0.as_bytes(), row.files.1.as_bytes());
     let shelf = shelf_of(alloc, first, second, one(alloc, call as u64)?)?;
     let (out, err) = (sink_of(alloc, 4096)?, sink_of(alloc, 99)?);
-    match row.names.get(call / CALLS) {
-        Some(name) => {
-            let line = format!(in alloc; "read failed: {name}\n")?;
-            assert!(rt; says(alloc, &words, shelf, out, err, (3, b"", line.as_bytes())));
-        }
-        None => {
-            let said = (row.status, row.out.as_bytes(), b"".as_slice());
-            assert!(rt; says(alloc, &words, shelf, out, err, said));
-        }
-    }
+    let line = match row.names.get(call / CALLS) {
+        Some(name) => format!(in alloc; "read failed: {name}\n")?,
+        None => String::new(alloc),
+    };
+    let said = if line.is_empty() {
+        (row.status, row.out.as_bytes(), b"".as_slice())
+    } else {
+        (3, b"".as_slice(), line.as_bytes())
+    };
+    assert!(rt; says(alloc, &words, shelf, out, err, said));
     Ok(())
 }
 

@@ -9,10 +9,4 @@ mod checks;
 #[cfg(test)]
 mod commands;
 #[cfg(test)]
-mod grammar;
-#[cfg(test)]
-mod pieces;
-#[cfg(test)]
 mod upgrades;
-#[cfg(test)]
-mod whole;

@@ -4,11 +4,13 @@ ghost use Rattle.std.specs.Prelude.{◌≤◌, length};
 use cert_check::{Checker, Verdict};
 use policy::Edf;
 use preemption::PerTask;
-use sheet_text::read_sheet;
+use small_sheets::{TWO_DEADLINES, sheet_of};
 use std::alloc::{AllocError, Global};
 use std::test::Fail;
 use task_sheet::Sheet;
-use top_cases::files::{TWO_DEADLINES, TWO_DEADLINES_CERT};
+
+const TWO_DEADLINES_CERT: &str =
+    "poet-cert 1\ntasks 2\ntask 0 4 2 2\np 0 2\np 2 4\ntask 1 4 4 2\np 0 4\np 2 4\nend\n";
 
 /// The verdict on the bytes of a certificate, in two pieces.
 fn in_two(alloc: Global, sheet: &Sheet, bytes: &[u8], at: usize) -> Result<Verdict, AllocError>
@@ -39,7 +41,7 @@ fn bounds_of(verdict: &Verdict) -> Option<&[u64]> {
 #[test]
 fn one_verdict_however_it_is_cut(rt: HostRuntime) -> Result<(), Fail> {
     let alloc = rt.alloc();
-    let sheet = read_sheet(alloc, TWO_DEADLINES.as_bytes())?;
+    let sheet = sheet_of(alloc, TWO_DEADLINES)?;
     let bytes = TWO_DEADLINES_CERT.as_bytes();
     let bounds = Some([2, 4].as_slice());
     assert_eq!(rt; bounds_of(&byte_by_byte(alloc, &sheet, bytes)?), bounds);

@@ -226,6 +226,15 @@ module _ (sheet : SheetParts) (common n : ℕ) (marks group rest : List Bool) (o
         theirs o (omega (arith, b, in_range)) ∙ ap (λ (w : Bool). not w && is_in marks o) (eq-eqb (task_at sheet o).curve.horizon common at)
   ]
 
+-- a task that was left out already leaves out no other
+pub left_as_it_is : (left : List Bool) (k : ℕ) → ((o : ℕ) → o < k → is_in left o ≡ false) → is_in left k ≡ false → (o : ℕ) → o < k + 1 → is_in left o ≡ false
+left_as_it_is left k before here o b = elim (cases_lt o k) [
+  | inl early ↦ before o early
+  | inr late ↦
+      let same : o ≡ k = omega (arith, b, late) in
+      subst (λ (w : ℕ). is_in left w ≡ false) (sym same) here
+]
+
 pub behind_but_first : (sheet : SheetParts) (marks : List Bool) (n : ℕ) → IsBehindBut sheet marks marks n 0
 behind_but_first sheet marks n l = omega arith
 

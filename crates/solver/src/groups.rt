@@ -234,10 +234,12 @@ pub fn common_lag(sheet: &Sheet, marks: &[bool; MOST_TASKS]) -> u128
     let mut left = *marks;
     let mut lag: u128 = 0;
     for o in 0..sheet.len() {
-        let common = sheet.task(o).curve.horizon();
-        let group = group_of(sheet, &left, common);
-        lag += group_lag(sheet, &group, common);
-        left = rest_of(sheet, &left, common);
+        if left[o as usize] {
+            let common = sheet.task(o).curve.horizon();
+            let group = group_of(sheet, &left, common);
+            lag += group_lag(sheet, &group, common);
+            left = rest_of(sheet, &left, common);
+        }
     }
     lag
 }
